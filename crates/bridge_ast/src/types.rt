@@ -1,0 +1,105 @@
+//! The types of fields, parameters and returns.
+
+use crate::lifetimes::Lifetime;
+use crate::paths::PathType;
+use sqlite_items::{Boxed, Items};
+
+/// Whether a reference may be written through.
+#[derive(Clone, Copy)]
+pub enum Mutability {
+    /// `&mut`.
+    Mutable,
+    /// `&`.
+    Immutable,
+}
+
+/// How the text of a string slice is encoded, and whether that was tested.
+#[derive(Clone, Copy)]
+pub enum StringEncoding {
+    /// `DiplomatStr`: bytes that should be UTF-8.
+    UnvalidatedUtf8,
+    /// `DiplomatStr16`: units that should be UTF-16.
+    UnvalidatedUtf16,
+    /// `str`: UTF-8.
+    Utf8,
+}
+
+/// Whose spelling of a type was used.
+#[derive(Clone, Copy)]
+pub enum StdlibOrDiplomat {
+    /// The standard library's, as `Option<T>`.
+    Stdlib,
+    /// Diplomat's, as `DiplomatOption<T>`.
+    Diplomat,
+}
+
+/// A primitive type, under Rust's name; `byte` is a `u8` that stands for raw data.
+#[derive(Clone, Copy)]
+#[allow(non_camel_case_types)]
+pub enum PrimitiveType {
+    i8,
+    u8,
+    i16,
+    u16,
+    i32,
+    u32,
+    i64,
+    u64,
+    isize,
+    usize,
+    i128,
+    u128,
+    f32,
+    f64,
+    bool,
+    char,
+    byte,
+}
+
+/// What a writer takes.
+#[derive(Clone, Copy)]
+pub enum WriteType {
+    /// Text in UTF-8.
+    Str,
+    /// Text in UTF-16.
+    Str16,
+    /// Values of a primitive type.
+    Primitive(PrimitiveType),
+}
+
+/// A type as it is written.
+#[derive(Drop)]
+pub enum TypeName {
+    /// A primitive type.
+    Primitive(PrimitiveType),
+    /// `std::cmp::Ordering`.
+    Ordering,
+    /// The item that a path names.
+    Named(PathType),
+    /// `Self`, with the path that it stands for.
+    SelfType(PathType),
+    /// `impl Trait`.
+    ImplTrait(PathType),
+    /// `&'a T` or `&'a mut T`.
+    Reference(Lifetime, Mutability, Boxed<TypeName>),
+    /// `Box<T>`.
+    Box(Boxed<TypeName>),
+    /// `Option<T>` or `DiplomatOption<T>`.
+    Option(Boxed<TypeName>, StdlibOrDiplomat),
+    /// `Result<T, E>` or `DiplomatResult<T, E>`.
+    Result(Boxed<TypeName>, Boxed<TypeName>, StdlibOrDiplomat),
+    /// A writer, as `DiplomatWrite`.
+    Write(WriteType),
+    /// A string slice; owned where it has no lifetime.
+    StrReference(Option<Lifetime>, StringEncoding, StdlibOrDiplomat),
+    /// A list of string slices.
+    StrSlice(StringEncoding, StdlibOrDiplomat),
+    /// A slice of a primitive type; owned where it has no lifetime.
+    PrimitiveSlice(Option<(Lifetime, Mutability)>, PrimitiveType, StdlibOrDiplomat),
+    /// A slice of any other type; owned where it has no lifetime.
+    CustomTypeSlice(Option<(Lifetime, Mutability)>, Boxed<TypeName>, StdlibOrDiplomat),
+    /// `impl Fn(A, B) -> R`, or `impl FnMut` where it is mutable.
+    Function(Items<TypeName>, Boxed<TypeName>, Mutability),
+    /// `()`.
+    Unit,
+}
