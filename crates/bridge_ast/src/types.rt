@@ -1,5 +1,7 @@
 //! The types of fields, parameters and returns.
 
+ghost use Rattle.std.specs.Prelude.{◌≡◌, ◌↔◌, IsTrue};
+
 use crate::lifetimes::Lifetime;
 use crate::paths::PathType;
 use sqlite_items::{Boxed, Items};
@@ -11,6 +13,22 @@ pub enum Mutability {
     Mutable,
     /// `&`.
     Immutable,
+}
+
+impl Mutability {
+    /// Whether it is `&mut`.
+    pub fn is_mutable(&self) -> bool
+        ensures { IsTrue result ↔ (self.now ≡ Mutability.Mutable) }
+    {
+        matches!(self, Mutability::Mutable)
+    }
+
+    /// Whether it is `&`.
+    pub fn is_immutable(&self) -> bool
+        ensures { IsTrue result ↔ (self.now ≡ Mutability.Immutable) }
+    {
+        matches!(self, Mutability::Immutable)
+    }
 }
 
 /// How the text of a string slice is encoded, and whether that was tested.

@@ -1,0 +1,2 @@
+pub mod IdentLemmas
+pub mod TableLemmas
