@@ -1,0 +1,33 @@
+-- The lifetimes of a signature or of a definition.
+use Rattle.std.specs.Prelude.{ℕ, List, [], length, map, slice_index_or, ◌<◌, ◌≤◌}
+use Rattle.std.specs.List.{Contains}
+use Rattle.hir_life.specs.declared.bounds.BoundedLifetime.{BoundedLifetime}
+use Rattle.hir_life.specs.declared.walks.Direction.{Direction}
+use Rattle.hir_life.specs.declared.walks.Direction.TheVariants.{Longer, Shorter}
+
+-- the named lifetimes with their bounds, and the number of all lifetimes: `fn f<'a, 'b: 'a>(x: &u8)` has two bounds and
+-- the count three
+pub record Environment : Type 0 where
+  pub bounds : List BoundedLifetime
+  pub count : ℕ
+
+-- the lifetimes that are declared to outlive s: b for a in `fn f<'a, 'b: 'a>`, and none for an anonymous s
+abbrev pub longer_of : Environment → ℕ → List ℕ
+longer_of e s = slice_index_or (map (λ b. b.longer) e.bounds) s []
+
+-- the lifetimes that l is declared to outlive: a for b in `fn f<'a, 'b: 'a>`, and none for an anonymous l
+abbrev pub shorter_of : Environment → ℕ → List ℕ
+shorter_of e l = slice_index_or (map (λ b. b.shorter) e.bounds) l []
+
+-- the direct bounds that a walk in this direction follows
+abbrev pub followed : Environment → Direction → ℕ → List ℕ
+followed e Longer = longer_of e
+followed e Shorter = shorter_of e
+
+-- bounds are between named lifetimes and stand at both of their ends, and the named lifetimes are counted among all
+pub record IsSound (e : Environment) : Type 0 where
+  pub longer_named : (s l : ℕ) → Contains (longer_of e s) l → l < length e.bounds
+  pub shorter_named : (l s : ℕ) → Contains (shorter_of e l) s → s < length e.bounds
+  pub longer_has_shorter : (l s : ℕ) → Contains (longer_of e s) l → Contains (shorter_of e l) s
+  pub shorter_has_longer : (l s : ℕ) → Contains (shorter_of e l) s → Contains (longer_of e s) l
+  pub counted : length e.bounds ≤ e.count

@@ -1,0 +1,40 @@
+-- What a walk over lifetimes gives.
+use Rattle.std.specs.Prelude.{◌≡◌, ℕ, List, [], ◌∷◌, ◌++◌, ◌<◌, Option, Some, None}
+use Rattle.std.specs.List.{Contains}
+use Rattle.hir_life.specs.Outlives.{Outlives}
+use Rattle.hir_life.specs.Environment.{Environment, followed}
+use Rattle.hir_life.specs.declared.walks.Direction.{Direction}
+
+-- the environment that is walked over, the bounds that are followed, where the walk began, and what it gave so far
+pub record Walk : Type 0 where
+  pub environment : Environment
+  pub direction : Direction
+  pub start : ℕ
+  pub given : List ℕ
+
+-- a walk that has given nothing, as one that begins
+abbrev pub walk_from : Environment → Direction → ℕ → Walk
+walk_from environment direction start = record { environment = environment; direction = direction; start = start; given = [] }
+
+-- l belongs to the walk: for `fn f<'a, 'b: 'a>` a walk to the longer from a has a and b, and from b only b
+abbrev pub Belongs : Walk → ℕ → Type 0
+Belongs w l = Outlives (followed w.environment w.direction) l w.start
+
+-- the walk gives l: a lifetime that belongs to it and was not given, which at first is where it starts. From a in
+-- `fn f<'a, 'b: 'a>` it gives a, and then b
+pub record Gives (w : Walk) (l : ℕ) (after : Walk) : Type 0 where
+  pub belongs : Belongs w l
+  pub within : l < w.environment.count
+  pub fresh : Contains w.given l → ⊥
+  pub first : w.given ≡ [] → l ≡ w.start
+  pub follows : after ≡ record w { given = w.given ++ l ∷ [] }
+
+-- the walk is over: it has given all that belongs to it, as a and b
+pub record Ends (w after : Walk) : Type 0 where
+  pub complete : (l : ℕ) → Belongs w l → Contains w.given l
+  pub stays : after ≡ w
+
+-- what one call of `next` does, by what it returns
+abbrev pub Steps : Walk → Option ℕ → Walk → Type 0
+Steps w None after = Ends w after
+Steps w (Some l) after = Gives w l after

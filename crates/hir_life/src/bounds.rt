@@ -1,0 +1,80 @@
+//! Named lifetimes and the bounds that are declared between them.
+
+ghost use Rattle.std.specs.Prelude.{◌≡◌, [], ◌∷◌, ◌++◌, length, IfOk, OnOk, OnErr};
+
+use crate::lifetime_index::Lifetime;
+use bridge_ast::idents::IdentBuf;
+use bridge_ast::text::NoMemory;
+use smallvec::SmallVec;
+use std::alloc::Global;
+use std::marker::Model;
+
+/// A list of lifetimes that contracts see as the list of their numbers. Up to two of them take no memory.
+#[derive(Drop)]
+pub struct LifetimeList {
+    lifetimes: SmallVec<Lifetime, 2>,
+}
+
+impl Model for LifetimeList {
+    ghost use Rattle.std.specs.Prelude.{List, ℕ};
+
+    ghost Value = { List ℕ };
+
+    ghost view = { λ it. it.lifetimes.items };
+}
+
+impl LifetimeList {
+    /// The empty list.
+    pub fn new(alloc: Global) -> LifetimeList
+        ensures { result ≡ [] }
+    {
+        LifetimeList {
+            lifetimes: SmallVec::new(alloc),
+        }
+    }
+
+    /// A copy of these lifetimes.
+    pub fn from_slice(alloc: Global, lifetimes: &[Lifetime]) -> Result<LifetimeList, NoMemory>
+        ensures { IfOk result (λ list. list ≡ lifetimes.now) }
+    {
+        Ok(LifetimeList {
+            lifetimes: SmallVec::from_slice(alloc, lifetimes)?,
+        })
+    }
+
+    /// Adds a lifetime at the end. Without memory for it the list stays as it was.
+    pub fn push(&mut self, lifetime: Lifetime) -> Result<(), NoMemory>
+        ensures ok { OnOk result (self.new ≡ self.old ++ lifetime ∷ []) }
+        ensures err { OnErr result (self.new ≡ self.old) }
+    {
+        self.lifetimes.push(lifetime)?;
+        Ok(())
+    }
+
+    /// The lifetimes, lent.
+    pub fn as_slice(&self) -> &[Lifetime]
+        ensures { result.now ≡ self.now }
+    {
+        self.lifetimes.as_slice()
+    }
+
+    /// How many lifetimes the list has.
+    pub fn len(&self) -> usize
+        ensures { result ≡ length self.now }
+    {
+        self.lifetimes.len()
+    }
+}
+
+/// A named lifetime with the bounds that are declared for it directly.
+///
+/// For `fn f<'a, 'b: 'a>` the entry of `a` has `b` among its `longer`, and that of `b` has `a` among its `shorter`.
+#[derive(Drop)]
+pub struct BoundedLifetime {
+    /// The name, without its apostrophe.
+    pub ident: IdentBuf,
+    /// The lifetimes that are declared to outlive this one.
+    pub longer: LifetimeList,
+    /// The lifetimes that this one is declared to outlive.
+    pub shorter: LifetimeList,
+}

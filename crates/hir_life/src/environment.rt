@@ -1,0 +1,120 @@
+//! The lifetimes that a signature or a definition has, with the bounds between them.
+
+ghost use Rattle.std.specs.Prelude.{◌≡◌, ℕ, ◌<◌, ◌↔◌, IsTrue, IfOk};
+
+use crate::bounds::BoundedLifetime;
+use crate::lifetime_index::Lifetime;
+use crate::naming::LifetimeName;
+use crate::walks::{Direction, LifetimeTransitivityIterator};
+use bridge_ast::text::NoMemory;
+use sqlite_items::Items;
+use std::alloc::Global;
+use std::marker::Model;
+
+/// The lifetimes of a signature or of a definition: the named ones with their bounds, and how many there are with the
+/// anonymous ones.
+///
+/// The bounds stand between named lifetimes, and each is kept at both of its ends.
+#[derive(Drop)]
+pub struct LifetimeEnv {
+    nodes: Items<BoundedLifetime>,
+    count: usize,
+}
+
+impl Model for LifetimeEnv {
+    ghost use Rattle.hir_life.specs.Environment.{Environment, IsSound};
+
+    ghost Value = { Environment };
+
+    ghost view = { λ it. record { bounds = it.nodes; count = it.count } };
+
+    ghost invariant = { λ it. IsSound (record { bounds = it.nodes; count = it.count }) };
+}
+
+impl LifetimeEnv {
+    ghost use Rattle.hir_life.specs.Environment.{Environment, IsSound, followed, longer_of, shorter_of};
+    ghost use Rattle.hir_life.specs.Outlives.{Outlives};
+    ghost use Rattle.hir_life.specs.Naming.{IsNameOf, name_of, printed};
+    ghost use Rattle.hir_life.specs.Walk.{walk_from};
+    ghost use Rattle.hir_life.specs.declared.walks.Direction.TheVariants.{Longer, Shorter};
+
+    /// The environment of these named lifetimes, in which `num_lifetimes` is the number of all lifetimes, the named ones
+    /// counted too.
+    pub fn new(nodes: Items<BoundedLifetime>, num_lifetimes: usize) -> LifetimeEnv
+        requires { IsSound (record { bounds = nodes; count = num_lifetimes }) }
+        ensures { result ≡ record { bounds = nodes; count = num_lifetimes } }
+    {
+        LifetimeEnv {
+            nodes,
+            count: num_lifetimes,
+        }
+    }
+
+    /// How many lifetimes there are, named and anonymous ones together.
+    pub fn num_lifetimes(&self) -> usize
+        ensures value { result ≡ self.now.count }
+        ensures sound { IsSound self.now }
+    {
+        self.count
+    }
+
+    /// Whether the lifetime is one of this environment's.
+    pub fn contains(&self, lt: Lifetime) -> bool
+        ensures { IsTrue result ↔ (lt < self.now.count) }
+    {
+        lt.index() < self.num_lifetimes()
+    }
+
+    /// What the lifetime is called.
+    pub fn fmt_lifetime(&self, lt: Lifetime) -> LifetimeName<'_>
+        requires { lt < self.now.count }
+        ensures kind { IsNameOf self.now lt result }
+        ensures text { printed result ≡ name_of self.now lt }
+    {
+        match self.nodes.as_slice().get(lt.index()) {
+            Some(node) => LifetimeName::Named(node.ident.as_str()),
+            None => LifetimeName::Anonymous(lt.index() - self.nodes.len()),
+        }
+    }
+
+    /// The direct bounds of the lifetime on one side: none for an anonymous lifetime.
+    pub(crate) fn direct(&self, direction: Direction, lifetime: usize) -> &[Lifetime]
+        ensures bounds { result.now ≡ followed self.now direction lifetime }
+        ensures sound { IsSound self.now }
+    {
+        match self.nodes.as_slice().get(lifetime) {
+            Some(node) => match direction {
+                Direction::Longer => node.longer.as_slice(),
+                Direction::Shorter => node.shorter.as_slice(),
+            },
+            None => &[],
+        }
+    }
+
+    /// The lifetimes that outlive this one: itself first, and then each other once.
+    pub fn all_longer_lifetimes(
+        &self,
+        alloc: Global,
+        lt: Lifetime,
+    ) -> Result<LifetimeTransitivityIterator<'_>, NoMemory>
+        requires { lt < self.now.count }
+        ensures { IfOk result (λ walk. walk ≡ walk_from self.now Longer lt) }
+    {
+        LifetimeTransitivityIterator::new(alloc, self, Direction::Longer, lt)
+    }
+
+    /// The lifetimes that this one outlives: itself first, and then each other once.
+    ///
+    /// One lifetime is among those that a second outlives exactly where the second is among those that outlive the first.
+    pub fn all_shorter_lifetimes(
+        &self,
+        alloc: Global,
+        lt: Lifetime,
+    ) -> Result<LifetimeTransitivityIterator<'_>, NoMemory>
+        requires { lt < self.now.count }
+        ensures walk { IfOk result (λ walk. walk ≡ walk_from self.now Shorter lt) }
+        ensures converse { (l s : ℕ) → (Outlives (shorter_of self.now) s l ↔ Outlives (longer_of self.now) l s) }
+    {
+        LifetimeTransitivityIterator::new(alloc, self, Direction::Shorter, lt)
+    }
+}

@@ -1,0 +1,128 @@
+//! Walks against worked examples and against the plain search.
+
+mod plain;
+mod sound;
+
+use crate::bounds::{BoundedLifetime, LifetimeList};
+use crate::environment::LifetimeEnv;
+use crate::lifetime_index::Lifetime;
+use crate::walks::LifetimeTransitivityIterator;
+use bridge_ast::idents::IdentBuf;
+use sqlite_items::Items;
+use std::alloc::Global;
+use std::process::Abort;
+use std::test::Fail;
+
+/// The lifetimes of one direction: of each bound that has `at` at the first end, the other end.
+fn ends(alloc: Global, bounds: &[(usize, usize)], at: usize) -> Result<LifetimeList, Fail> {
+    let mut list = LifetimeList::new(alloc);
+    for (here, there) in bounds {
+        if *here == at {
+            list.push(Lifetime::new(*there))?;
+        }
+    }
+    Ok(list)
+}
+
+/// The environment with these names and bounds, each bound as the lifetime that outlives and the one that is outlived.
+fn environment(
+    alloc: Global,
+    names: &[&str],
+    bounds: &[(usize, usize)],
+    count: usize,
+) -> Result<LifetimeEnv, Fail> {
+    let mut nodes = Items::new(alloc);
+    let mut backward = Vec::new(alloc);
+    for (longer, shorter) in bounds {
+        backward.push((*shorter, *longer))?;
+    }
+    for (at, name) in names.iter().enumerate() {
+        let ident = IdentBuf::new(alloc, name)?;
+        let longer = ends(alloc, &backward, at)?;
+        let shorter = ends(alloc, bounds, at)?;
+        nodes.push(BoundedLifetime {
+            ident,
+            longer,
+            shorter,
+        })?;
+    }
+    if !sound::is_sound(nodes.as_slice(), count) {
+        return Err(Fail::from("the bounds don't fit"));
+    }
+    Ok(LifetimeEnv::new(nodes, count))
+}
+
+/// The numbers of the lifetimes that the walk gives.
+fn numbers(alloc: Global, walk: LifetimeTransitivityIterator<'_>) -> Result<Vec<usize>, Fail> {
+    let mut given = Vec::new(alloc);
+    for lifetime in walk {
+        given.push(lifetime.index())?;
+    }
+    Ok(given)
+}
+
+/// Walks from `start` in both directions, and asks the plain search about each lifetime.
+fn walk_from(
+    rt: &impl Abort,
+    alloc: Global,
+    env: &LifetimeEnv,
+    start: usize,
+    longer: &[usize],
+    shorter: &[usize],
+) -> Result<(), Fail> {
+    let start = Lifetime::new(start);
+    assert!(rt; env.contains(start));
+    let walk = env.all_longer_lifetimes(alloc, start)?;
+    assert_eq!(rt; numbers(alloc, walk)?.as_slice(), longer);
+    let walk = env.all_shorter_lifetimes(alloc, start)?;
+    assert_eq!(rt; numbers(alloc, walk)?.as_slice(), shorter);
+    let flags = env.outliving_flags(alloc, start)?;
+    assert_eq!(rt; flags.len(), env.num_lifetimes());
+    for (number, flag) in flags.iter().enumerate() {
+        let lifetime = Lifetime::new(number);
+        assert!(rt; env.contains(lifetime));
+        assert_eq!(rt;
+            *flag,
+            plain::outlives_plainly(alloc, env, lifetime, start)?
+        );
+    }
+    Ok(())
+}
+
+#[test]
+fn walks(rt: HostRuntime) -> Result<(), Fail> {
+    let alloc = rt.alloc();
+    let names: [&str; 4] = ["a", "b", "c", "d"];
+    // `'b: 'a, 'c: 'b`; a cycle; a diamond; `'a: 'a`; no bounds; and lifetimes past the names.
+    let rows: [(&[(usize, usize)], usize, &[usize], &[usize]); 9] = [
+        (&[(1, 0), (2, 1)], 0, &[0, 1, 2], &[0]),
+        (&[(1, 0), (2, 1)], 1, &[1, 2], &[1, 0]),
+        (&[(1, 0), (2, 1)], 2, &[2], &[2, 1, 0]),
+        (&[(1, 0), (2, 1), (0, 2)], 1, &[1, 2, 0], &[1, 0, 2]),
+        (&[(1, 0), (2, 0), (3, 1), (3, 2)], 0, &[0, 1, 2, 3], &[0]),
+        (&[(0, 0), (1, 0)], 0, &[0, 1], &[0]),
+        (&[], 3, &[3], &[3]),
+        (&[(1, 0)], 4, &[4], &[4]),
+        (&[(1, 0)], 5, &[5], &[5]),
+    ];
+    for (bounds, start, longer, shorter) in rows {
+        let env = environment(alloc, &names, bounds, 6)?;
+        walk_from(&rt, alloc, &env, start, longer, shorter)?;
+    }
+    Ok(())
+}
+
+#[test]
+fn names(rt: HostRuntime) -> Result<(), Fail> {
+    let alloc = rt.alloc();
+    let env = environment(alloc, &["a", "long_name"], &[(1, 0)], 14)?;
+    assert_eq!(rt; env.num_lifetimes(), 14);
+    for (number, name) in [(0, "a"), (1, "long_name"), (2, "anon_0"), (13, "anon_11")] {
+        let lifetime = Lifetime::new(number);
+        assert!(rt; env.contains(lifetime));
+        let text = format!(in alloc; "{}", env.fmt_lifetime(lifetime))?;
+        assert_eq!(rt; text.as_str(), name);
+    }
+    assert!(rt; !env.contains(Lifetime::new(14)));
+    Ok(())
+}
