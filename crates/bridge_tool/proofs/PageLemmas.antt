@@ -1,0 +1,116 @@
+-- The texts of a page, piece by piece.
+use Rattle.std.proofs.Common.{◌≡◌, ℕ, zero, suc, ◌+◌, ◌<◌, ◌≤◌, min, Bool, List, [], ◌∷◌, ◌++◌, length, map, take, drop, get_or, Option, Some, None, refl, sym, ap, ◌∙◌, append_assoc, add-one, arith}
+use Rattle.std.specs.Prelude.{◌==◌, slice_get, codes, option_map, unwrap_or}
+use Rattle.std.specs.List.{join_by}
+use Rattle.std.proofs.lemmas.List.{append-nil, take_all, take-take, take_min, length-map, length-append, drop-drop, drop_min}
+use Rattle.std.proofs.lemmas.Option.{get_or_from_slice_get, slice_get-map, slice_get_read, unwrap_or-slice_get}
+use Rattle.bridge_ast.specs.declared.methods.Method.{Method}
+use Rattle.bridge_ast.specs.declared.modules.Item.{Item}
+use Rattle.bridge_ast.specs.Names.{item_name}
+use Rattle.bridge_tool.specs.declared.report.CallableReport.{CallableReport}
+use Rattle.bridge_tool.specs.Borrows.{Callable, callables_of, callables}
+use Rattle.bridge_tool.specs.Chosen.{EachPair}
+use Rattle.bridge_tool.specs.Page.{opening, listed, callable_text, text_with, callables_text}
+use Rattle.bridge_tool.specs.Sound.{methods_of}
+use Rattle.bridge_tool.proofs.ChosenLemmas.{flat_map_one_more}
+
+-- the name of what stands at a place
+pub text_at_some : {A : Type 0} (f : A → List ℕ) (xs : List A) (n : ℕ) (x : A) → Some x ≡ slice_get xs n → get_or (map f xs) n [] ≡ f x
+text_at_some f xs n x h = get_or_from_slice_get (map f xs) n (f x) [] (slice_get-map f xs n ∙ ap (λ o. option_map f o) (sym h))
+
+-- nothing stands there
+pub text_at_none : {A : Type 0} (f : A → List ℕ) (xs : List A) (n : ℕ) → None ≡ slice_get xs n → get_or (map f xs) n [] ≡ []
+text_at_none f xs n h =
+    let none : slice_get (map f xs) n ≡ None = slice_get-map f xs n ∙ ap (λ o. option_map f o) (sym h) in
+    sym (unwrap_or-slice_get (map f xs) n []) ∙ ap (λ o. unwrap_or o []) none
+
+pub listed_same : {A : Type 0} (f : A → List ℕ) (xs ys : List A) (is_empty : Bool) → is_empty ≡ (length xs == 0) → xs ≡ ys
+    → opening is_empty ++ join_by f (codes ", ") xs ≡ listed f ys
+listed_same f xs ys is_empty h same = ap (λ b. opening b ++ join_by f (codes ", ") xs) h ∙ ap (listed f) same
+
+no_reports : (cs : List Callable) → callables_text cs [] ≡ []
+no_reports [] = refl
+no_reports (callable ∷ cs) = refl
+
+-- one more callable
+callables_more : (cs : List Callable) (reports : List CallableReport) (i : ℕ) (callable : Callable) → slice_get cs i ≡ Some callable
+    → callables_text (take (suc i) cs) (take (suc i) reports) ≡ callables_text (take i cs) (take i reports) ++ text_with callable (slice_get reports i)
+callables_more [] reports i callable h = absurd cc
+callables_more (first ∷ cs) [] zero callable h = refl
+callables_more (first ∷ cs) (report ∷ reports) zero callable h =
+    let same : first ≡ callable = (let e : Some first ≡ Some callable = h in cc) in
+    append-nil (callable_text first report) ∙ ap (λ c. callable_text c report) same
+callables_more (first ∷ cs) [] (suc i) callable h = refl
+callables_more (first ∷ cs) (report ∷ reports) (suc i) callable h =
+    ap (λ t. callable_text first report ++ t) (callables_more cs reports i callable h)
+    ∙ sym (append_assoc (callable_text first report) (callables_text (take i cs) (take i reports)) (text_with callable (slice_get reports i)))
+
+pub callables_next : (cs : List Callable) (reports : List CallableReport) (i : ℕ) (callable : Callable) → slice_get cs i ≡ Some callable
+    → callables_text (take i cs) (take i reports) ++ text_with callable (slice_get reports i) ≡ callables_text (take (i + 1) cs) (take (i + 1) reports)
+callables_next cs reports i callable h =
+    sym (callables_more cs reports i callable h) ∙ ap (λ n. callables_text (take n cs) (take n reports)) (sym (add-one i))
+
+-- the method at a place of an item is the callable at that place
+pub callable_at : (item : Item) (methods : List Method) (i : ℕ) (method : Method) → methods ≡ methods_of item → i < length methods → method ≡ get_or methods i method
+    → slice_get (callables_of item) i ≡ Some (record { item = item_name item; method = method })
+callable_at item methods i method same lt is =
+    let here : slice_get (methods_of item) i ≡ Some method = ap (λ (ms : List Method). slice_get ms i) (sym same) ∙ slice_get_read methods (length methods) i method refl lt is in
+    slice_get-map (λ m. record { item = item_name item; method = m }) (methods_of item) i ∙ ap (λ (o : Option Method). option_map (λ m. record { item = item_name item; method = m }) o) here
+
+-- reports past the cs don't count
+pub enough_reports : (cs : List Callable) (reports : List CallableReport) → callables_text cs (take (length cs) reports) ≡ callables_text cs reports
+enough_reports [] reports = refl
+enough_reports (callable ∷ cs) [] = refl
+enough_reports (callable ∷ cs) (report ∷ reports) = ap (λ t. callable_text callable report ++ t) (enough_reports cs reports)
+
+-- all callables of an item were printed
+pub callables_all : (item : Item) (methods : List Method) (i : ℕ) (reports : List CallableReport) → methods ≡ methods_of item → length methods ≤ i
+    → callables_text (take i (callables_of item)) (take i reports) ≡ callables_text (callables_of item) reports
+callables_all item methods i reports same le =
+    let count : length (callables_of item) ≡ length methods = length-map (methods_of item) (λ m. record { item = item_name item; method = m }) ∙ ap length (sym same) in
+    let short : length (callables_of item) ≤ i = omega (arith, count) in
+    ap (λ cs. callables_text cs (take i reports)) (take_all i (callables_of item) short)
+    ∙ sym (enough_reports (callables_of item) (take i reports)) ∙ ap (callables_text (callables_of item)) (take-take (length (callables_of item)) i reports short)
+    ∙ enough_reports (callables_of item) reports
+
+-- some cs, and then others with the reports that are left
+pub callables_then : (cs others : List Callable) (reports : List CallableReport)
+    → callables_text (cs ++ others) reports ≡ callables_text cs reports ++ callables_text others (drop (length cs) reports)
+callables_then [] others reports = refl
+callables_then (callable ∷ cs) others [] = sym (no_reports others)
+callables_then (callable ∷ cs) others (report ∷ reports) =
+    ap (λ t. callable_text callable report ++ t) (callables_then cs others reports)
+    ∙ sym (append_assoc (callable_text callable report) (callables_text cs reports) (callables_text others (drop (length cs) reports)))
+
+pub pairs_length : {A B : Type 0} (R : A → B → Type 0) (xs : List A) (ys : List B) → EachPair R xs ys → length ys ≡ length xs
+pairs_length R [] [] h = refl
+pairs_length R [] (y ∷ ys) h = absurd h
+pairs_length R (x ∷ xs) [] h = absurd h
+pairs_length R (x ∷ xs) (y ∷ ys) h = ap suc (pairs_length R xs ys h.1)
+
+-- the reports of an item are those at the front of what is left
+pub own_reports : (item : Item) (methods : List Method) (count : ℕ) (rest own : List CallableReport) → methods ≡ methods_of item → count ≡ min (length methods) (length rest)
+    → own ≡ take count rest → callables_text (callables_of item) own ≡ callables_text (callables_of item) rest
+own_reports item methods count rest own same fewer front =
+    let length_is : length methods ≡ length (callables_of item) = ap length same ∙ sym (length-map (methods_of item) (λ m. record { item = item_name item; method = m })) in
+    ap (callables_text (callables_of item)) (front ∙ ap (λ n. take n rest) fewer ∙ take_min (length methods) rest ∙ ap (λ n. take n rest) length_is)
+    ∙ enough_reports (callables_of item) rest
+
+-- one more item was printed
+pub item_next : (items : List Item) (i : ℕ) (item : Item) (reports rest own : List CallableReport) → i < length items → item ≡ get_or items i item
+    → rest ≡ drop (length (callables (take i items))) reports → callables_text (callables_of item) own ≡ callables_text (callables_of item) rest
+    → callables_text (callables (take i items)) reports ++ callables_text (callables_of item) own ≡ callables_text (callables (take (i + 1) items)) reports
+item_next items i item reports rest own lt is left same =
+    ap (λ t. callables_text (callables (take i items)) reports ++ t) (same ∙ ap (callables_text (callables_of item)) left)
+    ∙ sym (callables_then (callables (take i items)) (callables_of item) reports)
+    ∙ ap (λ cs. callables_text cs reports) (flat_map_one_more callables_of items i item lt is)
+
+pub left_next : (items : List Item) (i : ℕ) (item : Item) (methods : List Method) (count : ℕ) (reports rest others : List CallableReport) → i < length items → item ≡ get_or items i item
+    → methods ≡ methods_of item → count ≡ min (length methods) (length rest) → rest ≡ drop (length (callables (take i items))) reports → others ≡ drop count rest
+    → others ≡ drop (length (callables (take (i + 1) items))) reports
+left_next items i item methods count reports rest others lt is same fewer left back =
+    let length_is : length methods ≡ length (callables_of item) = ap length same ∙ sym (length-map (methods_of item) (λ m. record { item = item_name item; method = m })) in
+    let total : length (callables (take i items)) + length (callables_of item) ≡ length (callables (take (i + 1) items)) =
+    sym (length-append (callables (take i items)) (callables_of item)) ∙ ap length (flat_map_one_more callables_of items i item lt is) in
+    back ∙ ap (λ n. drop n rest) fewer ∙ drop_min (length methods) rest ∙ ap (λ n. drop n rest) length_is ∙ ap (drop (length (callables_of item))) left
+    ∙ drop-drop (length (callables_of item)) (length (callables (take i items))) reports ∙ ap (λ n. drop n reports) total

@@ -1,0 +1,186 @@
+-- What a run did, and what that says of its status.
+use Rattle.std.proofs.Common.{◌≡◌, ◌≢◌, ℕ, ◌<◌, ◌≤◌, ◌^◌, Bool, List, [], ◌∷◌, length, map, get_or, Option, Result, Ok, Err, refl, sym, ap, ◌∙◌, arith, inl, inr}
+use Rattle.std.specs.Prelude.{◌↔◌, IfSome, IsTrue, String, codes, string_bytes}
+use Rattle.std.specs.Str.{bytes_eq}
+use Rattle.std.proofs.lemmas.Slice.Eq.{bytes_eq-Decides}
+use Rattle.std.specs.declared.alloc.Global.{Global}
+use Rattle.bridge_ast.specs.declared.modules.Module.{Module}
+use Rattle.bridge_tool.specs.declared.sink.SinkFault.{SinkFault}
+use Rattle.bridge_tool.specs.declared.sink.SinkFault.TheVariants.{Failed, NoMemory}
+use Rattle.bridge_tool.specs.declared.status.Status.{Status}
+use Rattle.bridge_tool.specs.declared.status.Status.TheVariants as status
+use Rattle.bridge_tool.specs.declared.verdict.Verdict.{Verdict}
+use Rattle.bridge_tool.specs.declared.verdict.Verdict.TheVariants.{Accepted, NotJson, NotBuilt}
+use Rattle.bridge_tool.specs.Borrows.{callables, IsCallableReport}
+use Rattle.bridge_tool.specs.Judging.{HasReports, Judges}
+use Rattle.bridge_tool.specs.Outside.{Rose, taken_with}
+use Rattle.bridge_tool.specs.Page.{IsPage}
+use Rattle.bridge_tool.specs.Printing.{Delivers}
+use Rattle.bridge_tool.specs.Running.{World, Accepts, AreAccepted, AreCommand, Answered, Declines, IsDeclinedBy, Ran, WereRead, ended_with}
+use Rattle.bridge_tool.specs.Statuses.{code_of}
+use Rattle.bridge_tool.proofs.PageLemmas.{pairs_length}
+
+-- a verdict on bytes has its reports
+pub judged_has_reports : (bytes : List ℕ) (verdict : Verdict) → Judges bytes verdict → HasReports verdict
+judged_has_reports bytes (Accepted root reports) h = pairs_length IsCallableReport (callables root.items) reports h.1
+judged_has_reports bytes NotJson h = tt
+judged_has_reports bytes NotBuilt h = tt
+
+-- an accepted verdict was printed
+pub answered_page : {K : Type 0} (taken : K → Option (List ℕ)) (faults : K → ℕ) (sink sink' : K) (bytes : List ℕ) (root : Module) (page : List ℕ) (printed : Result (Unit {0}) SinkFault)
+    → Delivers taken faults sink sink' page printed → AreAccepted bytes root → IsPage root page
+    → Answered bytes (taken sink) (taken sink') (faults sink) (faults sink') (ended_with status.Accepted printed)
+answered_page taken faults sink sink' bytes root page (Ok done) d accepted is_page =
+    (root, page, accepted, is_page, d.took ∙ ap (taken_with (taken sink)) d.whole, d.steady)
+answered_page taken faults sink sink' bytes root page (Err Failed) d accepted is_page = d.failed refl
+answered_page taken faults sink sink' bytes root page (Err NoMemory) d accepted is_page = tt
+
+-- a line was printed
+pub answered_line : {K : Type 0} (taken : K → Option (List ℕ)) (faults : K → ℕ) (sink sink' : K) (bytes line : List ℕ) (printed : Result (Unit {0}) SinkFault)
+    → Delivers taken faults sink sink' line printed → IsDeclinedBy bytes line → Answered bytes (taken sink) (taken sink') (faults sink) (faults sink') (ended_with status.NotDeclarations printed)
+answered_line taken faults sink sink' bytes line (Ok done) d declined = (line, declined, d.took ∙ ap (taken_with (taken sink)) d.whole, d.steady)
+answered_line taken faults sink sink' bytes line (Err Failed) d declined = d.failed refl
+answered_line taken faults sink sink' bytes line (Err NoMemory) d declined = tt
+
+-- what was read was answered
+pub ran_answered : (words : List (String Global)) (old new : World) (bytes : List ℕ) → AreCommand words → WereRead old new bytes
+    → (end : Status) → Answered bytes old.taken new.taken old.write_faults new.write_faults end → Ran words old new end
+ran_answered words old new bytes command read status.Accepted a =
+    (command, record { bytes = bytes; root = a.0; page = a.1; read = read; accepted = a.2; is_page = a.3; taken = record { taken = a.4; no_fault = a.5 } })
+ran_answered words old new bytes command read status.Refused a = absurd a
+ran_answered words old new bytes command read status.NotDeclarations a =
+    (command, record { bytes = bytes; line = a.0; read = read; declined = a.1; taken = record { taken = a.2; no_fault = a.3 } })
+ran_answered words old new bytes command read status.ReadFailed a = absurd a
+ran_answered words old new bytes command read status.WriteFailed a = (command, record { bytes = bytes; read = read; failed = a })
+ran_answered words old new bytes command read status.NoMemory a = command
+ran_answered words old new bytes command read status.BadWords a = absurd a
+ran_answered words old new bytes command read status.TooLong a = absurd a
+
+-- what each status says
+pub record Says (words : List (String Global)) (old new : World) (code : ℕ) : Type 0 where
+  pub accepted : code ≡ 0 → Accepts old new
+  pub declined : code ≡ 2 → Declines old new
+  pub read_failed : code ≡ 3 → Rose old.read_faults new.read_faults
+  pub write_failed : code ≡ 4 → Rose old.write_faults new.write_faults
+  pub bad_words : (code ≡ 6) ↔ (¬ (AreCommand words))
+  pub too_long : code ≡ 7 → IfSome old.left (λ had. 2 ^ 26 < length had)
+  pub reads_steady : code ≢ 3 → code ≢ 5 → new.read_faults ≡ old.read_faults
+  pub writes_steady : code ≢ 4 → code ≢ 5 → new.write_faults ≡ old.write_faults
+  pub unwritten : code ≢ 0 → code ≢ 2 → code ≢ 4 → code ≢ 5 → new.taken ≡ old.taken
+  pub no_reports_yet : code ≢ 1
+  pub at_most_seven : code ≤ 7
+
+pub says : (words : List (String Global)) (old new : World) (end : Status) → Ran words old new end → Says words old new (code_of end)
+says words old new status.Accepted r = record {
+  accepted = λ e. r.1;
+  declined = λ e. absurd (omega arith);
+  read_failed = λ e. absurd (omega arith);
+  write_failed = λ e. absurd (omega arith);
+  bad_words = (λ e. absurd (omega arith), λ no. absurd (no r.0));
+  too_long = λ e. absurd (omega arith);
+  reads_steady = λ a b. r.1.read.no_fault;
+  writes_steady = λ a b. r.1.taken.no_fault;
+  unwritten = λ a b d e. absurd (a refl);
+  no_reports_yet = λ e. absurd (omega arith);
+  at_most_seven = omega arith;
+}
+says words old new status.Refused r = absurd r
+says words old new status.NotDeclarations r = record {
+  accepted = λ e. absurd (omega arith);
+  declined = λ e. r.1;
+  read_failed = λ e. absurd (omega arith);
+  write_failed = λ e. absurd (omega arith);
+  bad_words = (λ e. absurd (omega arith), λ no. absurd (no r.0));
+  too_long = λ e. absurd (omega arith);
+  reads_steady = λ a b. r.1.read.no_fault;
+  writes_steady = λ a b. r.1.taken.no_fault;
+  unwritten = λ a b d e. absurd (b refl);
+  no_reports_yet = λ e. absurd (omega arith);
+  at_most_seven = omega arith;
+}
+says words old new status.ReadFailed r = record {
+  accepted = λ e. absurd (omega arith);
+  declined = λ e. absurd (omega arith);
+  read_failed = λ e. r.1;
+  write_failed = λ e. absurd (omega arith);
+  bad_words = (λ e. absurd (omega arith), λ no. absurd (no r.0));
+  too_long = λ e. absurd (omega arith);
+  reads_steady = λ a b. absurd (a refl);
+  writes_steady = λ a b. r.2.no_fault;
+  unwritten = λ a b d e. r.2.taken;
+  no_reports_yet = λ e. absurd (omega arith);
+  at_most_seven = omega arith;
+}
+says words old new status.WriteFailed r = record {
+  accepted = λ e. absurd (omega arith);
+  declined = λ e. absurd (omega arith);
+  read_failed = λ e. absurd (omega arith);
+  write_failed = λ e. r.1.failed;
+  bad_words = (λ e. absurd (omega arith), λ no. absurd (no r.0));
+  too_long = λ e. absurd (omega arith);
+  reads_steady = λ a b. r.1.read.no_fault;
+  writes_steady = λ a b. absurd (a refl);
+  unwritten = λ a b d e. absurd (d refl);
+  no_reports_yet = λ e. absurd (omega arith);
+  at_most_seven = omega arith;
+}
+says words old new status.NoMemory r = record {
+  accepted = λ e. absurd (omega arith);
+  declined = λ e. absurd (omega arith);
+  read_failed = λ e. absurd (omega arith);
+  write_failed = λ e. absurd (omega arith);
+  bad_words = (λ e. absurd (omega arith), λ no. absurd (no r));
+  too_long = λ e. absurd (omega arith);
+  reads_steady = λ a b. absurd (b refl);
+  writes_steady = λ a b. absurd (b refl);
+  unwritten = λ a b d e. absurd (e refl);
+  no_reports_yet = λ e. absurd (omega arith);
+  at_most_seven = omega arith;
+}
+says words old new status.BadWords r = record {
+  accepted = λ e. absurd (omega arith);
+  declined = λ e. absurd (omega arith);
+  read_failed = λ e. absurd (omega arith);
+  write_failed = λ e. absurd (omega arith);
+  bad_words = (λ e. r.0, λ no. refl);
+  too_long = λ e. absurd (omega arith);
+  reads_steady = λ a b. ap (λ (w : World). w.read_faults) r.1;
+  writes_steady = λ a b. ap (λ (w : World). w.write_faults) r.1;
+  unwritten = λ a b d e. ap (λ (w : World). w.taken) r.1;
+  no_reports_yet = λ e. absurd (omega arith);
+  at_most_seven = omega arith;
+}
+says words old new status.TooLong r = record {
+  accepted = λ e. absurd (omega arith);
+  declined = λ e. absurd (omega arith);
+  read_failed = λ e. absurd (omega arith);
+  write_failed = λ e. absurd (omega arith);
+  bad_words = (λ e. absurd (omega arith), λ no. absurd (no r.0));
+  too_long = λ e. r.1;
+  reads_steady = λ a b. r.2;
+  writes_steady = λ a b. r.3.no_fault;
+  unwritten = λ a b d e. r.3.taken;
+  no_reports_yet = λ e. absurd (omega arith);
+  at_most_seven = omega arith;
+}
+
+single : {A : Type 0} (xs : List A) (x : A) → 1 ≤ length xs → length xs < 2 → x ≡ get_or xs 0 x → xs ≡ x ∷ []
+single [] x some few is = absurd (omega arith)
+single (y ∷ []) x some few is = ap (λ t. t ∷ []) (sym is)
+single (y ∷ z ∷ ys) x some few is = absurd (omega arith)
+
+-- one word is a command exactly where it is `check`
+pub one_word_is_command : (words : List (String Global)) (word : String Global) (text : List ℕ) (answer : Bool) → 1 ≤ length words → length words < 2 → word ≡ get_or words 0 word
+    → text ≡ string_bytes word → answer ≡ bytes_eq text (codes "check") → IsTrue answer ↔ AreCommand words
+one_word_is_command words word text answer some few is text_is answer_is =
+    let one : words ≡ word ∷ [] = single words word some few is in
+    let seen : map string_bytes words ≡ string_bytes word ∷ [] = ap (map string_bytes) one in (
+      λ yes. inr (seen ∙ ap (λ t. t ∷ []) (sym text_is ∙ (bytes_eq-Decides text (codes "check")).0 (sym answer_is ∙ yes))),
+      λ command. elim command [
+        | inl none ↦ absurd (let e : string_bytes word ∷ [] ≡ [] = sym seen ∙ none in cc)
+        | inr check ↦
+            (let e : string_bytes word ∷ [] ≡ codes "check" ∷ [] = sym seen ∙ check in
+            let same : string_bytes word ≡ codes "check" = cc in
+            answer_is ∙ (bytes_eq-Decides text (codes "check")).1 (text_is ∙ same))
+      ],
+    )

@@ -1,0 +1,8 @@
+use Rattle.std.proofs.Common.{take}
+use Rattle.std.specs.List.{flat_map}
+use Rattle.bridge_tool.specs.Page.{returned_text}
+use Rattle.bridge_tool.specs.Printing.{Prints}
+use Rattle.bridge_tool.proofs.page.put_all_returned.Given as goal
+
+abbrev pub invariant-loop-lifetime : goal.invariant-loop-lifetime
+invariant-loop-lifetime g l = Prints g.K.Sink.taken g.K.Sink.faults l.fn.sink l.fn.out l.sink l.out (flat_map (returned_text l.method) (take l.lifetime-index l.returned))

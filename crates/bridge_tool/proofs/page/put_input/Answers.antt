@@ -1,0 +1,10 @@
+use Rattle.std.proofs.Common.{ap, sym, ◌∙◌}
+use Rattle.bridge_ast.specs.declared.methods.Param.{Param}
+use Rattle.bridge_tool.specs.Page.{input_text}
+use Rattle.bridge_tool.proofs.PageLemmas.{text_at_none}
+use Rattle.bridge_tool.proofs.PrintingLaws.{prints_nothing, prints_same}
+use Rattle.bridge_tool.proofs.page.put_input.Goals as goal
+
+pub returns-in_default : goal.returns-in_default
+returns-in_default g c =
+    prints_same (sym (ap (input_text c.args.method.now) c.in-Param.is ∙ text_at_none (λ (param : Param). param.name) c.args.method.now.params c.in-Param.number c.in_default.ensures.value)) prints_nothing

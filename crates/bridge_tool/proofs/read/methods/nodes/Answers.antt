@@ -1,0 +1,13 @@
+use Rattle.std.proofs.lemmas.Result.{err_from_is_err_and}
+use Rattle.bridge_tool.specs.Reading.{node_of}
+use Rattle.bridge_tool.proofs.Lists.{pushed, stopped}
+use Rattle.bridge_tool.proofs.read.methods.nodes.Goals as goal
+
+pub returns-in_err-node : goal.returns-in_err-node
+returns-in_err-node c =
+    let p = err_from_is_err_and c.from_residual-in_err-node.result c.from_residual-in_err-node.ensures.1 in
+    rw (p.1, p.2) (stopped node_of _ c.in_ok-entry-items.entry-items.now c.loop-entry.entry-index c.entry-item.result c.in_err-node.field-0.0 c.in_ok-entry-items.ensures c.loop-entry-test.true c.entry-item.is c.in_err-node.ensures)
+
+pub loop-entry-preserved : goal.loop-entry-preserved
+loop-entry-preserved c =
+    pushed node_of c.in_ok-entry-items.entry-items.now c.loop-entry.entry-index c.entry-item.result c.loop-entry.nodes.items c.push.new.self.items c.in_ok-node.field-0 c.loop-entry-test.true c.entry-item.is c.loop-entry.invariant c.in_ok-node.ensures c.in_ok-push.ensures.items

@@ -1,0 +1,12 @@
+use Rattle.std.proofs.Common.{Some, refl}
+use Rattle.std.proofs.lemmas.Result.{on_ok_weaker}
+use Rattle.bridge_tool.specs.Reports.{TestFails}
+use Rattle.bridge_tool.proofs.ReportLemmas.{method_tested}
+use Rattle.bridge_tool.proofs.rules.test_method.Goals as goal
+
+pub returns : goal.returns
+returns c = λ all indexed.
+    on_ok_weaker c.test_lifetimes.result
+    (method_tested (TestFails all) c.args.item.now c.args.method.now (λ check. record { item = c.args.item.now; method = Some c.args.method.now.name; check = check }) _ _ _ _ refl
+    (c.in_ok-test_names.ensures all) (c.in_ok-test_paths.ensures all indexed))
+    (c.test_lifetimes.ensures all (rw c.in-Some.is at c.in_ok-names.ensures).1)

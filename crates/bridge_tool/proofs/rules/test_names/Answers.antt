@@ -1,0 +1,12 @@
+use Rattle.std.proofs.lemmas.Result.{on_ok_weaker}
+use Rattle.bridge_tool.specs.Checks.{name}
+use Rattle.bridge_tool.specs.Reports.{tested_at, TestFails}
+use Rattle.bridge_tool.proofs.ReportLemmas.{names_tested}
+use Rattle.bridge_tool.proofs.rules.test_names.Goals as goal
+
+pub returns : goal.returns
+returns c = λ all.
+    on_ok_weaker c.test_lifetime_names.result
+    (names_tested (TestFails all) (λ n. tested_at c.args.at (name n)) c.args.method.now _ _ _ _ _ _ c.as_slice.ensures c.as_slice-2.ensures
+    (c.in_ok-test_name.ensures all) (c.in_ok-test_param_names.ensures all))
+    (c.test_lifetime_names.ensures all)

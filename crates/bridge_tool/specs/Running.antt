@@ -1,0 +1,119 @@
+-- What a run of the program does to the outside.
+use Rattle.std.specs.Prelude.{◌≡◌, ◌<◌, ◌^◌, ◌⊎◌, ℕ, List, [], ◌∷◌, length, map, codes, string_bytes, Option, Some, IfSome, String, Result, Ok, Err}
+use Rattle.std.specs.declared.alloc.Global.{Global}
+use Rattle.bridge_ast.specs.declared.modules.Module.{Module}
+use Rattle.bridge_tool.specs.declared.sink.SinkFault.{SinkFault}
+use Rattle.bridge_tool.specs.declared.sink.SinkFault.TheVariants.{Failed, NoMemory}
+use Rattle.bridge_tool.specs.declared.status.Status.{Status}
+use Rattle.bridge_tool.specs.declared.status.Status.TheVariants as status
+use Rattle.bridge_tool.specs.Breaks.{BreakNothing}
+use Rattle.bridge_tool.specs.Outside.{Rose, taken_with}
+use Rattle.bridge_tool.specs.Page.{IsPage}
+use Rattle.bridge_tool.specs.Sound.{AreSound}
+use Rattle.bridge_tool.specs.Spelling.{Spelled, IsJson}
+
+-- the outside: the bytes that the source has left and those that the sink has taken, where they are told, and how often each failed
+pub record World : Type 0 where
+  pub left : Option (List ℕ)
+  pub read_faults : ℕ
+  pub taken : Option (List ℕ)
+  pub write_faults : ℕ
+
+abbrev pub world : Option (List ℕ) → ℕ → Option (List ℕ) → ℕ → World
+world left read_faults taken write_faults = record { left = left; read_faults = read_faults; taken = taken; write_faults = write_faults }
+
+-- the words of the command line are a command: none, or `check`
+abbrev pub AreCommand : List (String Global) → Type 0
+AreCommand words = (map string_bytes words ≡ []) ⊎ (map string_bytes words ≡ codes "check" ∷ [])
+
+-- the bytes spell declarations that fit together
+pub record Spells (bytes : List ℕ) (root : Module) : Type 0 where
+  pub spelled : Spelled bytes root
+  pub sound : AreSound root
+
+-- the bytes spell declarations that break no rule
+pub record AreAccepted (bytes : List ℕ) (root : Module) : Type 0 where
+  pub spells : Spells bytes root
+  pub keeps : BreakNothing root
+
+-- these are all the bytes that the source had, and it has none left
+pub record WereRead (old new : World) (bytes : List ℕ) : Type 0 where
+  pub all : IfSome old.left (λ had. bytes ≡ had)
+  pub none_left : IfSome old.left (λ had. new.left ≡ Some [])
+  pub no_fault : new.read_faults ≡ old.read_faults
+
+-- the sink took this text, nothing before and nothing after
+pub record WasTaken (old new : World) (text : List ℕ) : Type 0 where
+  pub taken : new.taken ≡ taken_with old.taken text
+  pub no_fault : new.write_faults ≡ old.write_faults
+
+-- nothing went to the sink
+pub record NothingTaken (old new : World) : Type 0 where
+  pub taken : new.taken ≡ old.taken
+  pub no_fault : new.write_faults ≡ old.write_faults
+
+-- the declarations that the bytes spell are accepted, and their page was printed
+pub record Accepts (old new : World) : Type 0 where
+  pub bytes : List ℕ
+  pub root : Module
+  pub page : List ℕ
+  pub read : WereRead old new bytes
+  pub accepted : AreAccepted bytes root
+  pub is_page : IsPage root page
+  pub taken : WasTaken old new page
+
+abbrev pub not_json_line : List ℕ
+not_json_line = codes "input: not JSON\n"
+
+abbrev pub not_built_line : List ℕ
+not_built_line = codes "input: form not built at \"\"\n"
+
+-- why the bytes are declined: they are no JSON text, or they are one that spells no accepted declarations
+abbrev pub IsDeclinedBy : List ℕ → List ℕ → Type 0
+IsDeclinedBy bytes line =
+    ((line ≡ not_json_line) × ¬ (IsJson bytes)) ⊎ ((line ≡ not_built_line) × IsJson bytes × ((root : Module) → ¬ (AreAccepted bytes root)))
+
+-- the bytes are declined, and the line that says so was printed
+pub record Declines (old new : World) : Type 0 where
+  pub bytes : List ℕ
+  pub line : List ℕ
+  pub read : WereRead old new bytes
+  pub declined : IsDeclinedBy bytes line
+  pub taken : WasTaken old new line
+
+-- no read failed, and then a write did: the sink took a first part of what would have been printed
+pub record WriteFails (old new : World) : Type 0 where
+  pub bytes : List ℕ
+  pub read : WereRead old new bytes
+  pub failed : Rose old.write_faults new.write_faults
+
+-- what happened, by the status that it ends with
+abbrev pub Ran : List (String Global) → World → World → Status → Type 0
+Ran words old new status.Accepted = AreCommand words × Accepts old new
+Ran words old new status.Refused = ⊥
+Ran words old new status.NotDeclarations = AreCommand words × Declines old new
+Ran words old new status.ReadFailed = AreCommand words × Rose old.read_faults new.read_faults × NothingTaken old new
+Ran words old new status.WriteFailed = AreCommand words × WriteFails old new
+Ran words old new status.NoMemory = AreCommand words
+Ran words old new status.BadWords = ¬ (AreCommand words) × (new ≡ old)
+Ran words old new status.TooLong =
+    AreCommand words × IfSome old.left (λ had. 2 ^ 26 < length had) × (new.read_faults ≡ old.read_faults) × NothingTaken old new
+
+-- the status once a verdict was printed
+abbrev pub ended_with : Status → Result (Unit {0}) SinkFault → Status
+ended_with verdict (Ok done) = verdict
+ended_with verdict (Err Failed) = status.WriteFailed
+ended_with verdict (Err NoMemory) = status.NoMemory
+
+-- what printing the verdict on bytes did to the sink, by the status that it ends with
+abbrev pub Answered : List ℕ → Option (List ℕ) → Option (List ℕ) → ℕ → ℕ → Status → Type 0
+Answered bytes taken taken' faults faults' status.Accepted =
+    (root : Module) × (page : List ℕ) × AreAccepted bytes root × IsPage root page × (taken' ≡ taken_with taken page) × (faults' ≡ faults)
+Answered bytes taken taken' faults faults' status.Refused = ⊥
+Answered bytes taken taken' faults faults' status.NotDeclarations =
+    (line : List ℕ) × IsDeclinedBy bytes line × (taken' ≡ taken_with taken line) × (faults' ≡ faults)
+Answered bytes taken taken' faults faults' status.ReadFailed = ⊥
+Answered bytes taken taken' faults faults' status.WriteFailed = Rose faults faults'
+Answered bytes taken taken' faults faults' status.NoMemory = Unit {0}
+Answered bytes taken taken' faults faults' status.BadWords = ⊥
+Answered bytes taken taken' faults faults' status.TooLong = ⊥

@@ -1,0 +1,3 @@
+pub mod BadIdent
+pub mod UnresolvedPath
+pub mod LifetimeUnknown

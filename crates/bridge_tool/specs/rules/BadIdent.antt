@@ -1,0 +1,14 @@
+-- BadIdent: a name of an item, a method, a parameter or a lifetime isn't an identifier.
+use Rattle.std.specs.Prelude.{◌≡◌, ℕ, List, [], ◌∷◌}
+use Rattle.bridge_ast.specs.declared.modules.Module.{Module}
+use Rattle.bridge_ast.specs.Ident.{IsIdent}
+use Rattle.bridge_ast.specs.Names.{Place}
+use Rattle.bridge_tool.specs.Checks.{name}
+use Rattle.bridge_tool.specs.Tested.{StandsAt}
+
+-- the name stands there, and the argument is the name
+pub record BadIdent (root : Module) (place : Place) (args : List (List ℕ)) : Type 0 where
+  pub name_there : List ℕ
+  pub stands : StandsAt root place (name name_there)
+  pub broken : ¬ (IsIdent name_there)
+  pub arguments : args ≡ name_there ∷ []

@@ -1,0 +1,16 @@
+-- LifetimeUnknown: a lifetime is used where it isn't declared.
+use Rattle.std.specs.Prelude.{◌≡◌, ℕ, List, [], ◌∷◌, Contains}
+use Rattle.bridge_ast.specs.declared.lifetimes.LifetimeEnv.{LifetimeEnv}
+use Rattle.bridge_ast.specs.declared.modules.Module.{Module}
+use Rattle.bridge_ast.specs.Environments.{lifetime_names}
+use Rattle.bridge_ast.specs.Names.{Place}
+use Rattle.bridge_tool.specs.Checks.{lifetime}
+use Rattle.bridge_tool.specs.Tested.{StandsAt}
+
+-- the lifetime is used there, under an environment that doesn't have its name; the argument is the name
+pub record LifetimeUnknown (root : Module) (place : Place) (args : List (List ℕ)) : Type 0 where
+  pub env : LifetimeEnv
+  pub used : List ℕ
+  pub stands : StandsAt root place (lifetime env used)
+  pub broken : ¬ (Contains (lifetime_names env) used)
+  pub arguments : args ≡ used ∷ []

@@ -1,0 +1,86 @@
+//! What all items have in common.
+
+ghost use Rattle.std.specs.Prelude.{◌≡◌, option_to_list};
+ghost use Rattle.std.specs.Option.{option_copied};
+ghost use Rattle.bridge_ast.specs.declared.types.TypeName.{out-TypeName};
+ghost use Rattle.bridge_ast.specs.Names.{item_name};
+ghost use Rattle.bridge_tool.specs.Checks.{own_paths, type_paths, type_lifetimes, receiver_lifetimes};
+ghost use Rattle.bridge_tool.specs.Sound.{methods_of};
+
+use bridge_ast::lifetimes::Lifetime;
+use bridge_ast::methods::{Method, SelfParam};
+use bridge_ast::modules::Item;
+use bridge_ast::paths::PathType;
+use bridge_ast::text::Text;
+use bridge_ast::types::TypeName;
+
+/// The name of an item.
+pub fn name_of(item: &Item) -> &Text
+    ensures { result.now ≡ item_name item.now }
+{
+    match item {
+        Item::Struct(item) => &item.name,
+        Item::Opaque(item) => &item.name,
+        Item::Enum(item) => &item.name,
+        Item::Trait(item) => &item.name,
+        Item::Function(item) => &item.name,
+    }
+}
+
+/// The methods of an item: none for a trait, whose methods are declared otherwise, and for a function.
+pub fn methods(item: &Item) -> &[Method]
+    ensures { result.now ≡ methods_of item.now }
+{
+    match item {
+        Item::Struct(item) => item.methods.as_slice(),
+        Item::Opaque(item) => item.methods.as_slice(),
+        Item::Enum(item) => item.methods.as_slice(),
+        Item::Trait(_) | Item::Function(_) => &[],
+    }
+}
+
+/// The path, where the type is one.
+fn own_path(ty: &TypeName) -> Option<&PathType>
+    ensures { option_to_list (option_copied result) ≡ own_paths (out-TypeName ty.now) }
+{
+    match ty {
+        TypeName::Named(path) => Some(path),
+        _ => None,
+    }
+}
+
+/// The path that is written in a type.
+pub fn written_path(ty: &TypeName) -> Option<&PathType>
+    ensures { option_to_list (option_copied result) ≡ type_paths (out-TypeName ty.now) }
+{
+    match ty {
+        TypeName::Named(path) => Some(path),
+        TypeName::Reference(_, _, inner) | TypeName::Box(inner) => own_path(inner.get()),
+        _ => None,
+    }
+}
+
+/// The lifetime that is written in a type.
+pub fn written_lifetime(ty: &TypeName) -> Option<&Lifetime>
+    ensures { option_to_list (option_copied result) ≡ type_lifetimes (out-TypeName ty.now) }
+{
+    match ty {
+        TypeName::Reference(lifetime, _, _) => Some(lifetime),
+        _ => None,
+    }
+}
+
+/// The lifetime of a receiver that is borrowed.
+pub fn receiver_lifetime(receiver: &Option<SelfParam>) -> Option<&Lifetime>
+    ensures { option_to_list (option_copied result) ≡ receiver_lifetimes receiver.now }
+{
+    match receiver {
+        Some(
+            SelfParam {
+                reference: Some((lifetime, _)),
+                ..
+            },
+        ) => Some(lifetime),
+        _ => None,
+    }
+}

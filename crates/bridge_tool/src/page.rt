@@ -1,0 +1,285 @@
+//! The page of accepted declarations: what each callable's returned value may borrow.
+
+ghost use Rattle.std.specs.Prelude.{◌≡◌, ◌++◌, List, map, length, codes, decimal};
+ghost use Rattle.std.specs.List.{flat_map, join_by};
+ghost use Rattle.std.specs.Option.{option_copied};
+ghost use Rattle.bridge_ast.specs.Names.{item_name};
+ghost use Rattle.bridge_tool.specs.Borrows.{callables_of, callables};
+ghost use Rattle.bridge_tool.specs.Page.{input_text, path_text, edge_text, optional_text, opening, lifetime_text, paths_line, edges_line, returned_text, place_text, callable_text, text_with, callables_text, page_of};
+ghost use Rattle.bridge_tool.specs.Printing.{Prints, Delivers, separator_at};
+ghost use Rattle.bridge_tool.specs.Sound.{methods_of};
+
+use crate::declarations::{methods, name_of};
+use crate::printer::{Printer, finish, put_number, put_separator, put_text};
+use crate::report::{
+    CallableReport, InputPlace, LeafPath, ReportEdge, ReportEdgeKind, ReturnedLifetime,
+};
+use crate::sink::{Sink, SinkFault};
+use bridge_ast::methods::Method;
+use bridge_ast::modules::{Item, Module};
+use bridge_ast::text::Text;
+use sqlite_items::at;
+
+/// The name of an input.
+fn put_input<K: Sink>(sink: &mut K, out: &mut Printer, method: &Method, input: InputPlace)
+    ensures { Prints K.taken K.faults sink.old out.old sink.new out.new (input_text method.now input) }
+{
+    match input {
+        InputPlace::Receiver => put_text(sink, out, "this"),
+        InputPlace::Param(number) => {
+            if let Some(param) = method.params.get(number) {
+                put_text(sink, out, param.name.as_str());
+            }
+        }
+    }
+}
+
+/// A path, after what stands before it in its list.
+fn put_path<K: Sink>(
+    sink: &mut K,
+    out: &mut Printer,
+    method: &Method,
+    place: usize,
+    path: &LeafPath,
+)
+    ensures { Prints K.taken K.faults sink.old out.old sink.new out.new (separator_at (codes ", ") place ++ path_text method.now path.now) }
+{
+    put_separator(sink, out, ", ", place);
+    put_input(sink, out, method, path.input);
+}
+
+fn put_optional<K: Sink>(sink: &mut K, out: &mut Printer, is_optional: bool)
+    ensures { Prints K.taken K.faults sink.old out.old sink.new out.new (optional_text is_optional) }
+{
+    if is_optional {
+        put_text(sink, out, " optional");
+    }
+}
+
+fn put_struct_edge<K: Sink>(
+    sink: &mut K,
+    out: &mut Printer,
+    method: &Method,
+    input: InputPlace,
+    position: usize,
+    is_optional: bool,
+)
+    ensures { Prints K.taken K.faults sink.old out.old sink.new out.new
+        (codes "struct " ++ input_text method.now input ++ codes " " ++ decimal position ++ optional_text is_optional) }
+{
+    put_text(sink, out, "struct ");
+    put_input(sink, out, method, input);
+    put_text(sink, out, " ");
+    put_number(sink, out, position);
+    put_optional(sink, out, is_optional);
+}
+
+/// An edge.
+fn put_edge<K: Sink>(sink: &mut K, out: &mut Printer, method: &Method, edge: &ReportEdge)
+    ensures { Prints K.taken K.faults sink.old out.old sink.new out.new (edge_text method.now edge.now) }
+{
+    match edge.kind {
+        ReportEdgeKind::Opaque => {
+            put_text(sink, out, "opaque ");
+            put_input(sink, out, method, edge.input);
+        }
+        ReportEdgeKind::Slice => {
+            put_text(sink, out, "slice ");
+            put_input(sink, out, method, edge.input);
+        }
+        ReportEdgeKind::Struct(position, is_optional) => {
+            put_struct_edge(sink, out, method, edge.input, position.index(), is_optional);
+        }
+    }
+}
+
+/// An edge, after what stands before it in its list.
+fn put_edge_at<K: Sink>(
+    sink: &mut K,
+    out: &mut Printer,
+    method: &Method,
+    place: usize,
+    edge: &ReportEdge,
+)
+    ensures { Prints K.taken K.faults sink.old out.old sink.new out.new (separator_at (codes ", ") place ++ edge_text method.now edge.now) }
+{
+    put_separator(sink, out, ", ", place);
+    put_edge(sink, out, method, edge);
+}
+
+fn put_joined_paths<K: Sink>(sink: &mut K, out: &mut Printer, method: &Method, paths: &[LeafPath])
+    ensures { Prints K.taken K.faults sink.old out.old sink.new out.new (join_by (path_text method.now) (codes ", ") paths.now) }
+{
+    for (place, path) in paths.iter().enumerate() {
+        put_path(sink, out, method, place, path);
+    }
+}
+
+fn put_joined_edges<K: Sink>(sink: &mut K, out: &mut Printer, method: &Method, edges: &[ReportEdge])
+    ensures { Prints K.taken K.faults sink.old out.old sink.new out.new (join_by (edge_text method.now) (codes ", ") edges.now) }
+{
+    for (place, edge) in edges.iter().enumerate() {
+        put_edge_at(sink, out, method, place, edge);
+    }
+}
+
+/// The space before a list that isn't empty.
+fn put_opening<K: Sink>(sink: &mut K, out: &mut Printer, is_empty: bool)
+    ensures { Prints K.taken K.faults sink.old out.old sink.new out.new (opening is_empty) }
+{
+    if !is_empty {
+        put_text(sink, out, " ");
+    }
+}
+
+/// The name of a lifetime.
+fn put_lifetime<K: Sink>(sink: &mut K, out: &mut Printer, method: &Method, number: usize)
+    ensures { Prints K.taken K.faults sink.old out.old sink.new out.new (lifetime_text method.now number) }
+{
+    if let Some(node) = method.lifetime_env.nodes.get(number) {
+        put_text(sink, out, node.name.as_str());
+    }
+}
+
+/// The line with the paths of a returned lifetime.
+fn put_paths_line<K: Sink>(
+    sink: &mut K,
+    out: &mut Printer,
+    method: &Method,
+    returned: &ReturnedLifetime,
+)
+    ensures { Prints K.taken K.faults sink.old out.old sink.new out.new (paths_line method.now returned.now) }
+{
+    let number = returned.lifetime.index();
+    let paths = returned.leaves.as_slice();
+    put_text(sink, out, "  lifetime ");
+    put_number(sink, out, number);
+    put_text(sink, out, " ");
+    put_lifetime(sink, out, method, number);
+    put_text(sink, out, ":");
+    put_opening(sink, out, paths.is_empty());
+    put_joined_paths(sink, out, method, paths);
+    put_text(sink, out, "\n");
+}
+
+/// The line with the edges of a returned lifetime.
+fn put_edges_line<K: Sink>(
+    sink: &mut K,
+    out: &mut Printer,
+    method: &Method,
+    returned: &ReturnedLifetime,
+)
+    ensures { Prints K.taken K.faults sink.old out.old sink.new out.new (edges_line method.now returned.now) }
+{
+    let edges = returned.edges.as_slice();
+    put_text(sink, out, "  edges:");
+    put_opening(sink, out, edges.is_empty());
+    put_joined_edges(sink, out, method, edges);
+    put_text(sink, out, "\n");
+}
+
+fn put_returned<K: Sink>(
+    sink: &mut K,
+    out: &mut Printer,
+    method: &Method,
+    returned: &ReturnedLifetime,
+)
+    ensures { Prints K.taken K.faults sink.old out.old sink.new out.new (returned_text method.now returned.now) }
+{
+    put_paths_line(sink, out, method, returned);
+    put_edges_line(sink, out, method, returned);
+}
+
+fn put_all_returned<K: Sink>(
+    sink: &mut K,
+    out: &mut Printer,
+    method: &Method,
+    returned: &[ReturnedLifetime],
+)
+    ensures { Prints K.taken K.faults sink.old out.old sink.new out.new (flat_map (returned_text method.now) returned.now) }
+{
+    for lifetime in returned {
+        put_returned(sink, out, method, lifetime);
+    }
+}
+
+/// A callable of the item of that name, with what it may borrow.
+fn put_callable<K: Sink>(
+    sink: &mut K,
+    out: &mut Printer,
+    item: &Text,
+    method: &Method,
+    report: &CallableReport,
+)
+    ensures { Prints K.taken K.faults sink.old out.old sink.new out.new (callable_text (record { item = item.now; method = method.now }) report.now) }
+{
+    put_text(sink, out, "callable ");
+    put_text(sink, out, item.as_str());
+    put_text(sink, out, "::");
+    put_text(sink, out, method.name.as_str());
+    put_text(sink, out, "\n");
+    put_all_returned(sink, out, method, report.returned.as_slice());
+}
+
+/// A callable with its report, where it has one.
+fn put_callable_with<K: Sink>(
+    sink: &mut K,
+    out: &mut Printer,
+    item: &Text,
+    method: &Method,
+    report: Option<&CallableReport>,
+)
+    ensures { Prints K.taken K.faults sink.old out.old sink.new out.new (text_with (record { item = item.now; method = method.now }) (option_copied report.entry)) }
+{
+    match report {
+        Some(report) => put_callable(sink, out, item, method, report),
+        None => {}
+    }
+}
+
+/// The callables of an item with their reports.
+fn put_callables<K: Sink>(sink: &mut K, out: &mut Printer, item: &Item, reports: &[CallableReport])
+    ensures { Prints K.taken K.faults sink.old out.old sink.new out.new (callables_text (callables_of item.now) reports.now) }
+{
+    let name = name_of(item);
+    for (place, method) in methods(item).iter().enumerate() {
+        put_callable_with(sink, out, name, method, at(reports, place));
+    }
+}
+
+/// The callables of all items with their reports.
+fn put_all_callables<K: Sink>(
+    sink: &mut K,
+    out: &mut Printer,
+    items: &[Item],
+    reports: &[CallableReport],
+)
+    ensures { Prints K.taken K.faults sink.old out.old sink.new out.new (callables_text (callables items.now) reports.now) }
+{
+    let mut rest = reports;
+    for item in items {
+        let count = methods(item).len().min(rest.len());
+        let (own, others) = rest.split_at(count);
+        put_callables(sink, out, item, own);
+        rest = others;
+    }
+}
+
+/// Prints the page of declarations whose callables have these reports, and nothing else. It takes no memory.
+///
+/// `Failed` where a write failed, `NoMemory` where a write wanted memory: then a first part of the page is written.
+pub fn print_page<K: Sink>(
+    sink: &mut K,
+    root: &Module,
+    reports: &[CallableReport],
+) -> Result<(), SinkFault>
+    requires { length reports.now ≡ length (callables root.now.items) }
+    ensures { Delivers K.taken K.faults sink.old sink.new (page_of (callables root.now.items) reports.now) result }
+{
+    let mut out = Printer::new();
+    put_all_callables(sink, &mut out, root.items.as_slice(), reports);
+    put_text(sink, &mut out, "ok ");
+    put_number(sink, &mut out, reports.len());
+    put_text(sink, &mut out, "\n");
+    finish(sink, &mut out)
+}

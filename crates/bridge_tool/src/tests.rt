@@ -1,0 +1,5 @@
+//! Tests, one module a subject.
+
+mod outside;
+mod reading;
+mod running;
