@@ -17,22 +17,21 @@ use Rattle.bridge_tool.specs.Chosen.{Chosen}
 use Rattle.serde_json.specs.Data.{Data}
 use Rattle.serde_json.specs.Read.{read}
 use Rattle.bridge_tool.specs.declared.verdict.Verdict.{Verdict}
-use Rattle.bridge_tool.specs.declared.verdict.Verdict.TheVariants.{Accepted, NotJson, NotBuilt}
-use Rattle.bridge_tool.specs.Borrows.{AreReports}
+use Rattle.bridge_tool.specs.declared.verdict.Verdict.TheVariants.{Declarations, NotJson, NotBuilt}
 use Rattle.bridge_tool.specs.Judging.{Judges, JudgesDeclarations}
 use Rattle.bridge_tool.specs.Reports.{TestFails}
-use Rattle.bridge_tool.specs.Running.{AreAccepted}
+use Rattle.bridge_tool.specs.Running.{Spells}
 use Rattle.bridge_tool.specs.Spelling.{Spelled, SpellsNothing, SpellsInput}
 use Rattle.bridge_tool.specs.Signature.{HasNamedMethods}
 use Rattle.bridge_tool.specs.Sound.{methods_of, AreSound}
 
-contains_first : {A : Type 0} (x : A) (xs : List A) → Contains (x ∷ xs) x
+pub contains_first : {A : Type 0} (x : A) (xs : List A) → Contains (x ∷ xs) x
 contains_first x xs = (0, omega arith, refl)
 
-contains_later : {A : Type 0} (y x : A) (xs : List A) → Contains xs x → Contains (y ∷ xs) x
+pub contains_later : {A : Type 0} (y x : A) (xs : List A) → Contains xs x → Contains (y ∷ xs) x
 contains_later y x xs h = (suc h.0, (let lt = h.1 in omega arith), h.2)
 
-contains_map : {A B : Type 0} (f : A → B) (xs : List A) (x : A) → Contains xs x → Contains (map f xs) (f x)
+pub contains_map : {A B : Type 0} (f : A → B) (xs : List A) (x : A) → Contains xs x → Contains (map f xs) (f x)
 contains_map f [] x h = absurd (let lt = h.1 in omega arith)
 contains_map f (y ∷ ys) x (zero, lt, is) = subst (λ z. Contains (f y ∷ map f ys) (f z)) is (contains_first (f y) (map f ys))
 contains_map f (y ∷ ys) x (suc k, lt, is) = contains_later (f y) (f x) (map f ys) (contains_map f ys x (k, omega arith, is))
@@ -50,12 +49,6 @@ chosen_none P [] x h k = absurd (let lt = k.1 in omega arith)
 chosen_none {A} P (y ∷ ys) x (inl h) k = absurd (let e : [] ≡ y ∷ h.1.0 = h.1.1 in cc)
 chosen_none P (y ∷ ys) x (inr h) (zero, lt, is) = subst (λ z. ¬ (P z)) is h.0
 chosen_none P (y ∷ ys) x (inr h) (suc k, lt, is) = chosen_none P ys x h.1 (k, omega arith, is)
-
--- what is chosen has the property
-pub chosen_some : {A : Type 0} (P : A → Type 0) (xs : List A) (y : A) (ys : List A) → Chosen P xs (y ∷ ys) → (x : A) × Contains xs x × P x
-chosen_some P [] y ys h = absurd (let e : y ∷ ys ≡ [] = h in cc)
-chosen_some P (x ∷ xs) y ys (inl h) = (x, contains_first x xs, h.0)
-chosen_some P (x ∷ xs) y ys (inr h) = let r = chosen_some P xs y ys h.1 in (r.0, contains_later x r.0 xs r.1, r.2)
 
 -- where no test fails no rule is broken
 pub keeps_rules : (root : Module) → Chosen (TestFails root.items) (tested_in root.items) [] → BreakNothing root
@@ -77,23 +70,6 @@ breaks_rule root item method (path p) there fails keeps =
 breaks_rule root item method (lifetime env l) there fails keeps =
     keeps rule.LifetimeUnknown (record { path = root.path; item = item; method = method }) (l ∷ [])
     (record { env = env; used = l; stands = (there, refl); broken = fails; arguments = refl })
-
-pub breaks_a_rule : (root : Module) (first : Tested) (others : List Tested) → Chosen (TestFails root.items) (tested_in root.items) (first ∷ others) → ¬ (BreakNothing root)
-breaks_a_rule root first others h =
-    let found = chosen_some (TestFails root.items) (tested_in root.items) first others h in
-    breaks_rule root found.0.item found.0.method found.0.check found.1 found.2
-
-some_reports : (n : ℕ) (none : Bool) → none ≡ (suc n == 0) → none ≡ false
-some_reports n true e = absurd (let zero_is : suc n ≡ 0 = eqb-true (suc n) 0 (sym e) in omega arith)
-some_reports n false e = refl
-
--- whether there are reports says whether a rule is broken
-pub kept_by_reports : {A : Type 0} (f : A → Tested) (root : Module) (reports : List A) (none : Bool) → none ≡ (length reports == 0)
-    → Chosen (TestFails root.items) (tested_in root.items) (map f reports) → MatchBool none (BreakNothing root) (¬ (BreakNothing root))
-kept_by_reports f root [] none e h = subst (λ b. MatchBool b (BreakNothing root) (¬ (BreakNothing root))) (sym e) (keeps_rules root h)
-kept_by_reports f root (r ∷ rs) none e h =
-    let more : none ≡ false = some_reports (length rs) none e in
-    subst (λ b. MatchBool b (BreakNothing root) (¬ (BreakNothing root))) (sym more) (breaks_a_rule root (f r) (map f rs) h)
 
 -- a name of a lifetime of a method is tested
 name_is_tested : (root : Module) (item : Item) (method : Method) (n : List ℕ) → Contains root.items item → Contains (methods_of item) method → Contains (lifetime_names method.lifetime_env) n
@@ -122,21 +98,16 @@ names_pass root keeps i item_d item_lt j method_d method_lt k name_d name_lt = �
 -- the verdict on declarations is that on the bytes that spell them
 pub judged : (bytes : List ℕ) (root : Module) → ((other : Module) → Spelled bytes root → Spelled bytes other → root ≡ other) → Spelled bytes root
     → (verdict : Verdict) → JudgesDeclarations root verdict → Judges bytes verdict
-judged bytes root one spelled (Accepted accepted reports) h = (
-  subst (AreAccepted bytes) (sym h.0) (record { spells = record { spelled = spelled; sound = h.1 }; keeps = h.2 }),
-  subst (λ (r : Module). AreReports r.items reports) (sym h.0) h.3,
-)
+judged bytes root one spelled (Declarations sound) h = subst (Spells bytes) (sym h.0) (record { spelled = spelled; sound = h.1 })
 judged bytes root one spelled NotJson h = absurd h
 judged bytes root one spelled NotBuilt h = (
   (spelled.value, spelled.json),
-  λ other accepted.
-      (let same = one other spelled accepted.spells.spelled in
-      h (subst AreSound (sym same) accepted.spells.sound) (subst BreakNothing (sym same) accepted.keeps)),
+  λ other spells. h (subst AreSound (sym (one other spelled spells.spelled)) spells.sound),
 )
 
--- no bytes that spell nothing are accepted
-pub nothing_accepted : (bytes : List ℕ) → SpellsNothing bytes → (root : Module) → ¬ (AreAccepted bytes root)
-nothing_accepted bytes none root accepted =
-    let spelled = accepted.spells.spelled in
+-- bytes that spell nothing spell no declarations
+pub nothing_spelled : (bytes : List ℕ) → SpellsNothing bytes → (root : Module) → ¬ (Spells bytes root)
+nothing_spelled bytes none root spells =
+    let spelled = spells.spelled in
     let same : spelled.value ≡ none.value = (let p : read bytes ≡ Some spelled.value = spelled.json.value in let q : read bytes ≡ Some none.value = none.json.value in cc) in
     none.nothing root (subst (λ (d : Data). SpellsInput d root) same spelled.input)

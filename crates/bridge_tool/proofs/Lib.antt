@@ -7,6 +7,7 @@ pub mod JoinedLists
 pub mod JudgeLemmas
 pub mod KeyTests
 pub mod Laws
+pub mod LinesLemmas
 pub mod ListingLemmas
 pub mod Lists
 pub mod MethodLaws
@@ -14,6 +15,7 @@ pub mod NumberLemmas
 pub mod PageLemmas
 pub mod PrintingLaws
 pub mod ReadSoFar
+pub mod RefusalLemmas
 pub mod ReportLemmas
 pub mod ReportsLemmas
 pub mod RunLemmas

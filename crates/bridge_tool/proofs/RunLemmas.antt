@@ -10,30 +10,47 @@ use Rattle.bridge_tool.specs.declared.sink.SinkFault.TheVariants.{Failed, NoMemo
 use Rattle.bridge_tool.specs.declared.status.Status.{Status}
 use Rattle.bridge_tool.specs.declared.status.Status.TheVariants as status
 use Rattle.bridge_tool.specs.declared.verdict.Verdict.{Verdict}
-use Rattle.bridge_tool.specs.declared.verdict.Verdict.TheVariants.{Accepted, NotJson, NotBuilt}
-use Rattle.bridge_tool.specs.Borrows.{callables, IsCallableReport}
-use Rattle.bridge_tool.specs.Judging.{HasReports, Judges}
+use Rattle.bridge_tool.specs.declared.verdict.Verdict.TheVariants.{Declarations, NotJson, NotBuilt}
+use Rattle.bridge_tool.specs.Breaks.{BreakNothing}
+use Rattle.bridge_tool.specs.Judging.{IsSound, Judges}
+use Rattle.bridge_tool.specs.Lines.{Reported, AreRefusedBy, lines}
 use Rattle.bridge_tool.specs.Outside.{Rose, taken_with}
 use Rattle.bridge_tool.specs.Page.{IsPage}
 use Rattle.bridge_tool.specs.Printing.{Delivers}
-use Rattle.bridge_tool.specs.Running.{World, Accepts, AreAccepted, AreCommand, Answered, Declines, IsDeclinedBy, Ran, WereRead, ended_with}
+use Rattle.bridge_tool.specs.Running.{World, Accepts, AreAccepted, Refuses, Spells, Told, AreCommand, Answered, Declines, IsDeclinedBy, Ran, WereRead, ended_with}
 use Rattle.bridge_tool.specs.Statuses.{code_of}
-use Rattle.bridge_tool.proofs.PageLemmas.{pairs_length}
 
--- a verdict on bytes has its reports
-pub judged_has_reports : (bytes : List ℕ) (verdict : Verdict) → Judges bytes verdict → HasReports verdict
-judged_has_reports bytes (Accepted root reports) h = pairs_length IsCallableReport (callables root.items) reports h.1
-judged_has_reports bytes NotJson h = tt
-judged_has_reports bytes NotBuilt h = tt
+-- the declarations of a verdict on bytes fit together
+pub judged_is_sound : (bytes : List ℕ) (verdict : Verdict) → Judges bytes verdict → IsSound verdict
+judged_is_sound bytes (Declarations root) h = h.sound
+judged_is_sound bytes NotJson h = tt
+judged_is_sound bytes NotBuilt h = tt
 
--- an accepted verdict was printed
-pub answered_page : {K : Type 0} (taken : K → Option (List ℕ)) (faults : K → ℕ) (sink sink' : K) (bytes : List ℕ) (root : Module) (page : List ℕ) (printed : Result (Unit {0}) SinkFault)
-    → Delivers taken faults sink sink' page printed → AreAccepted bytes root → IsPage root page
-    → Answered bytes (taken sink) (taken sink') (faults sink) (faults sink') (ended_with status.Accepted printed)
-answered_page taken faults sink sink' bytes root page (Ok done) d accepted is_page =
-    (root, page, accepted, is_page, d.took ∙ ap (taken_with (taken sink)) d.whole, d.steady)
-answered_page taken faults sink sink' bytes root page (Err Failed) d accepted is_page = d.failed refl
-answered_page taken faults sink sink' bytes root page (Err NoMemory) d accepted is_page = tt
+-- a page was printed
+pub told_page : {K : Type 0} (taken : K → Option (List ℕ)) (faults : K → ℕ) (sink sink' : K) (root : Module) (page : List ℕ) (printed : Result (Unit {0}) SinkFault)
+    → Delivers taken faults sink sink' page printed → BreakNothing root → IsPage root page → Told root (taken sink) (taken sink') (faults sink) (faults sink') (ended_with status.Accepted printed)
+told_page taken faults sink sink' root page (Ok done) d keep is_page = (page, keep, is_page, d.took ∙ ap (taken_with (taken sink)) d.whole, d.steady)
+told_page taken faults sink sink' root page (Err Failed) d keep is_page = d.failed refl
+told_page taken faults sink sink' root page (Err NoMemory) d keep is_page = tt
+
+-- reports were printed
+pub told_reports : {K : Type 0} (taken : K → Option (List ℕ)) (faults : K → ℕ) (sink sink' : K) (root : Module) (reports : List Reported) (printed : Result (Unit {0}) SinkFault)
+    → Delivers taken faults sink sink' (lines reports) printed → AreRefusedBy root reports → Told root (taken sink) (taken sink') (faults sink) (faults sink') (ended_with status.Refused printed)
+told_reports taken faults sink sink' root reports (Ok done) d refused = (reports, refused, d.took ∙ ap (taken_with (taken sink)) d.whole, d.steady)
+told_reports taken faults sink sink' root reports (Err Failed) d refused = d.failed refl
+told_reports taken faults sink sink' root reports (Err NoMemory) d refused = tt
+
+-- what was told of the declarations that bytes spell answers the bytes
+pub answered_told : (bytes : List ℕ) (root : Module) (taken taken' : Option (List ℕ)) (faults faults' : ℕ) (end : Status) → Spells bytes root
+    → Told root taken taken' faults faults' end → Answered bytes taken taken' faults faults' end
+answered_told bytes root taken taken' faults faults' status.Accepted spells t = (root, t.0, record { spells = spells; keeps = t.1 }, t.2, t.3, t.4)
+answered_told bytes root taken taken' faults faults' status.Refused spells t = (root, t.0, spells, t.1, t.2, t.3)
+answered_told bytes root taken taken' faults faults' status.NotDeclarations spells t = absurd t
+answered_told bytes root taken taken' faults faults' status.ReadFailed spells t = absurd t
+answered_told bytes root taken taken' faults faults' status.WriteFailed spells t = t
+answered_told bytes root taken taken' faults faults' status.NoMemory spells t = tt
+answered_told bytes root taken taken' faults faults' status.BadWords spells t = absurd t
+answered_told bytes root taken taken' faults faults' status.TooLong spells t = absurd t
 
 -- a line was printed
 pub answered_line : {K : Type 0} (taken : K → Option (List ℕ)) (faults : K → ℕ) (sink sink' : K) (bytes line : List ℕ) (printed : Result (Unit {0}) SinkFault)
@@ -47,7 +64,8 @@ pub ran_answered : (words : List (String Global)) (old new : World) (bytes : Lis
     → (end : Status) → Answered bytes old.taken new.taken old.write_faults new.write_faults end → Ran words old new end
 ran_answered words old new bytes command read status.Accepted a =
     (command, record { bytes = bytes; root = a.0; page = a.1; read = read; accepted = a.2; is_page = a.3; taken = record { taken = a.4; no_fault = a.5 } })
-ran_answered words old new bytes command read status.Refused a = absurd a
+ran_answered words old new bytes command read status.Refused a =
+    (command, record { bytes = bytes; root = a.0; reports = a.1; read = read; spells = a.2; refused = a.3; taken = record { taken = a.4; no_fault = a.5 } })
 ran_answered words old new bytes command read status.NotDeclarations a =
     (command, record { bytes = bytes; line = a.0; read = read; declined = a.1; taken = record { taken = a.2; no_fault = a.3 } })
 ran_answered words old new bytes command read status.ReadFailed a = absurd a
@@ -59,6 +77,7 @@ ran_answered words old new bytes command read status.TooLong a = absurd a
 -- what each status says
 pub record Says (words : List (String Global)) (old new : World) (code : ℕ) : Type 0 where
   pub accepted : code ≡ 0 → Accepts old new
+  pub refused : code ≡ 1 → Refuses old new
   pub declined : code ≡ 2 → Declines old new
   pub read_failed : code ≡ 3 → Rose old.read_faults new.read_faults
   pub write_failed : code ≡ 4 → Rose old.write_faults new.write_faults
@@ -66,13 +85,13 @@ pub record Says (words : List (String Global)) (old new : World) (code : ℕ) : 
   pub too_long : code ≡ 7 → IfSome old.left (λ had. 2 ^ 26 < length had)
   pub reads_steady : code ≢ 3 → code ≢ 5 → new.read_faults ≡ old.read_faults
   pub writes_steady : code ≢ 4 → code ≢ 5 → new.write_faults ≡ old.write_faults
-  pub unwritten : code ≢ 0 → code ≢ 2 → code ≢ 4 → code ≢ 5 → new.taken ≡ old.taken
-  pub no_reports_yet : code ≢ 1
+  pub unwritten : code ≢ 0 → code ≢ 1 → code ≢ 2 → code ≢ 4 → code ≢ 5 → new.taken ≡ old.taken
   pub at_most_seven : code ≤ 7
 
 pub says : (words : List (String Global)) (old new : World) (end : Status) → Ran words old new end → Says words old new (code_of end)
 says words old new status.Accepted r = record {
   accepted = λ e. r.1;
+  refused = λ e. absurd (omega arith);
   declined = λ e. absurd (omega arith);
   read_failed = λ e. absurd (omega arith);
   write_failed = λ e. absurd (omega arith);
@@ -80,13 +99,25 @@ says words old new status.Accepted r = record {
   too_long = λ e. absurd (omega arith);
   reads_steady = λ a b. r.1.read.no_fault;
   writes_steady = λ a b. r.1.taken.no_fault;
-  unwritten = λ a b d e. absurd (a refl);
-  no_reports_yet = λ e. absurd (omega arith);
+  unwritten = λ a z b d e. absurd (a refl);
   at_most_seven = omega arith;
 }
-says words old new status.Refused r = absurd r
+says words old new status.Refused r = record {
+  accepted = λ e. absurd (omega arith);
+  refused = λ e. r.1;
+  declined = λ e. absurd (omega arith);
+  read_failed = λ e. absurd (omega arith);
+  write_failed = λ e. absurd (omega arith);
+  bad_words = (λ e. absurd (omega arith), λ no. absurd (no r.0));
+  too_long = λ e. absurd (omega arith);
+  reads_steady = λ a b. r.1.read.no_fault;
+  writes_steady = λ a b. r.1.taken.no_fault;
+  unwritten = λ a z b d e. absurd (z refl);
+  at_most_seven = omega arith;
+}
 says words old new status.NotDeclarations r = record {
   accepted = λ e. absurd (omega arith);
+  refused = λ e. absurd (omega arith);
   declined = λ e. r.1;
   read_failed = λ e. absurd (omega arith);
   write_failed = λ e. absurd (omega arith);
@@ -94,12 +125,12 @@ says words old new status.NotDeclarations r = record {
   too_long = λ e. absurd (omega arith);
   reads_steady = λ a b. r.1.read.no_fault;
   writes_steady = λ a b. r.1.taken.no_fault;
-  unwritten = λ a b d e. absurd (b refl);
-  no_reports_yet = λ e. absurd (omega arith);
+  unwritten = λ a z b d e. absurd (b refl);
   at_most_seven = omega arith;
 }
 says words old new status.ReadFailed r = record {
   accepted = λ e. absurd (omega arith);
+  refused = λ e. absurd (omega arith);
   declined = λ e. absurd (omega arith);
   read_failed = λ e. r.1;
   write_failed = λ e. absurd (omega arith);
@@ -107,12 +138,12 @@ says words old new status.ReadFailed r = record {
   too_long = λ e. absurd (omega arith);
   reads_steady = λ a b. absurd (a refl);
   writes_steady = λ a b. r.2.no_fault;
-  unwritten = λ a b d e. r.2.taken;
-  no_reports_yet = λ e. absurd (omega arith);
+  unwritten = λ a z b d e. r.2.taken;
   at_most_seven = omega arith;
 }
 says words old new status.WriteFailed r = record {
   accepted = λ e. absurd (omega arith);
+  refused = λ e. absurd (omega arith);
   declined = λ e. absurd (omega arith);
   read_failed = λ e. absurd (omega arith);
   write_failed = λ e. r.1.failed;
@@ -120,12 +151,12 @@ says words old new status.WriteFailed r = record {
   too_long = λ e. absurd (omega arith);
   reads_steady = λ a b. r.1.read.no_fault;
   writes_steady = λ a b. absurd (a refl);
-  unwritten = λ a b d e. absurd (d refl);
-  no_reports_yet = λ e. absurd (omega arith);
+  unwritten = λ a z b d e. absurd (d refl);
   at_most_seven = omega arith;
 }
 says words old new status.NoMemory r = record {
   accepted = λ e. absurd (omega arith);
+  refused = λ e. absurd (omega arith);
   declined = λ e. absurd (omega arith);
   read_failed = λ e. absurd (omega arith);
   write_failed = λ e. absurd (omega arith);
@@ -133,12 +164,12 @@ says words old new status.NoMemory r = record {
   too_long = λ e. absurd (omega arith);
   reads_steady = λ a b. absurd (b refl);
   writes_steady = λ a b. absurd (b refl);
-  unwritten = λ a b d e. absurd (e refl);
-  no_reports_yet = λ e. absurd (omega arith);
+  unwritten = λ a z b d e. absurd (e refl);
   at_most_seven = omega arith;
 }
 says words old new status.BadWords r = record {
   accepted = λ e. absurd (omega arith);
+  refused = λ e. absurd (omega arith);
   declined = λ e. absurd (omega arith);
   read_failed = λ e. absurd (omega arith);
   write_failed = λ e. absurd (omega arith);
@@ -146,12 +177,12 @@ says words old new status.BadWords r = record {
   too_long = λ e. absurd (omega arith);
   reads_steady = λ a b. ap (λ (w : World). w.read_faults) r.1;
   writes_steady = λ a b. ap (λ (w : World). w.write_faults) r.1;
-  unwritten = λ a b d e. ap (λ (w : World). w.taken) r.1;
-  no_reports_yet = λ e. absurd (omega arith);
+  unwritten = λ a z b d e. ap (λ (w : World). w.taken) r.1;
   at_most_seven = omega arith;
 }
 says words old new status.TooLong r = record {
   accepted = λ e. absurd (omega arith);
+  refused = λ e. absurd (omega arith);
   declined = λ e. absurd (omega arith);
   read_failed = λ e. absurd (omega arith);
   write_failed = λ e. absurd (omega arith);
@@ -159,8 +190,7 @@ says words old new status.TooLong r = record {
   too_long = λ e. r.1;
   reads_steady = λ a b. r.2;
   writes_steady = λ a b. r.3.no_fault;
-  unwritten = λ a b d e. r.3.taken;
-  no_reports_yet = λ e. absurd (omega arith);
+  unwritten = λ a z b d e. r.3.taken;
   at_most_seven = omega arith;
 }
 

@@ -8,6 +8,7 @@ pub mod Index
 pub mod Judging
 pub mod Keys
 pub mod Leaves
+pub mod Lines
 pub mod Outside
 pub mod Page
 pub mod Printing

@@ -7,6 +7,7 @@ use Rattle.bridge_tool.specs.declared.sink.SinkFault.TheVariants.{Failed, NoMemo
 use Rattle.bridge_tool.specs.declared.status.Status.{Status}
 use Rattle.bridge_tool.specs.declared.status.Status.TheVariants as status
 use Rattle.bridge_tool.specs.Breaks.{BreakNothing}
+use Rattle.bridge_tool.specs.Lines.{Reported, AreRefusedBy, lines}
 use Rattle.bridge_tool.specs.Outside.{Rose, taken_with}
 use Rattle.bridge_tool.specs.Page.{IsPage}
 use Rattle.bridge_tool.specs.Sound.{AreSound}
@@ -62,16 +63,26 @@ pub record Accepts (old new : World) : Type 0 where
   pub is_page : IsPage root page
   pub taken : WasTaken old new page
 
+-- the declarations that the bytes spell break a rule, and the lines of their reports were printed
+pub record Refuses (old new : World) : Type 0 where
+  pub bytes : List ℕ
+  pub root : Module
+  pub reports : List Reported
+  pub read : WereRead old new bytes
+  pub spells : Spells bytes root
+  pub refused : AreRefusedBy root reports
+  pub taken : WasTaken old new (lines reports)
+
 abbrev pub not_json_line : List ℕ
 not_json_line = codes "input: not JSON\n"
 
 abbrev pub not_built_line : List ℕ
 not_built_line = codes "input: form not built at \"\"\n"
 
--- why the bytes are declined: they are no JSON text, or they are one that spells no accepted declarations
+-- why the bytes are declined: they are no JSON text, or they are one that spells no declarations that fit together
 abbrev pub IsDeclinedBy : List ℕ → List ℕ → Type 0
 IsDeclinedBy bytes line =
-    ((line ≡ not_json_line) × ¬ (IsJson bytes)) ⊎ ((line ≡ not_built_line) × IsJson bytes × ((root : Module) → ¬ (AreAccepted bytes root)))
+    ((line ≡ not_json_line) × ¬ (IsJson bytes)) ⊎ ((line ≡ not_built_line) × IsJson bytes × ((root : Module) → ¬ (Spells bytes root)))
 
 -- the bytes are declined, and the line that says so was printed
 pub record Declines (old new : World) : Type 0 where
@@ -90,7 +101,7 @@ pub record WriteFails (old new : World) : Type 0 where
 -- what happened, by the status that it ends with
 abbrev pub Ran : List (String Global) → World → World → Status → Type 0
 Ran words old new status.Accepted = AreCommand words × Accepts old new
-Ran words old new status.Refused = ⊥
+Ran words old new status.Refused = AreCommand words × Refuses old new
 Ran words old new status.NotDeclarations = AreCommand words × Declines old new
 Ran words old new status.ReadFailed = AreCommand words × Rose old.read_faults new.read_faults × NothingTaken old new
 Ran words old new status.WriteFailed = AreCommand words × WriteFails old new
@@ -105,11 +116,25 @@ ended_with verdict (Ok done) = verdict
 ended_with verdict (Err Failed) = status.WriteFailed
 ended_with verdict (Err NoMemory) = status.NoMemory
 
+-- what was printed of declarations, by the status that it ends with
+abbrev pub Told : Module → Option (List ℕ) → Option (List ℕ) → ℕ → ℕ → Status → Type 0
+Told root taken taken' faults faults' status.Accepted =
+    (page : List ℕ) × BreakNothing root × IsPage root page × (taken' ≡ taken_with taken page) × (faults' ≡ faults)
+Told root taken taken' faults faults' status.Refused =
+    (reports : List Reported) × AreRefusedBy root reports × (taken' ≡ taken_with taken (lines reports)) × (faults' ≡ faults)
+Told root taken taken' faults faults' status.NotDeclarations = ⊥
+Told root taken taken' faults faults' status.ReadFailed = ⊥
+Told root taken taken' faults faults' status.WriteFailed = Rose faults faults'
+Told root taken taken' faults faults' status.NoMemory = Unit {0}
+Told root taken taken' faults faults' status.BadWords = ⊥
+Told root taken taken' faults faults' status.TooLong = ⊥
+
 -- what printing the verdict on bytes did to the sink, by the status that it ends with
 abbrev pub Answered : List ℕ → Option (List ℕ) → Option (List ℕ) → ℕ → ℕ → Status → Type 0
 Answered bytes taken taken' faults faults' status.Accepted =
     (root : Module) × (page : List ℕ) × AreAccepted bytes root × IsPage root page × (taken' ≡ taken_with taken page) × (faults' ≡ faults)
-Answered bytes taken taken' faults faults' status.Refused = ⊥
+Answered bytes taken taken' faults faults' status.Refused =
+    (root : Module) × (reports : List Reported) × Spells bytes root × AreRefusedBy root reports × (taken' ≡ taken_with taken (lines reports)) × (faults' ≡ faults)
 Answered bytes taken taken' faults faults' status.NotDeclarations =
     (line : List ℕ) × IsDeclinedBy bytes line × (taken' ≡ taken_with taken line) × (faults' ≡ faults)
 Answered bytes taken taken' faults faults' status.ReadFailed = ⊥

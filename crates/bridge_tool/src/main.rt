@@ -12,6 +12,7 @@ mod faults;
 mod index;
 mod judge;
 mod keys;
+mod lines;
 mod page;
 pub mod printer;
 mod read;

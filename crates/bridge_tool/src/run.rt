@@ -1,18 +1,28 @@
 //! The whole program over any source and any sink.
 
-ghost use Rattle.std.specs.Prelude.{◌≡◌, ◌≢◌, ◌≤◌, ◌<◌, ◌^◌, ◌↔◌, ℕ, List, length, IfSome, IsTrue};
-ghost use Rattle.bridge_tool.specs.Judging.{HasReports, Judges};
+ghost use Rattle.std.specs.Prelude.{◌≡◌, ◌≢◌, ◌≤◌, ◌<◌, ◌^◌, ◌↔◌, ℕ, List, length, map, IfSome, IsTrue};
+ghost use Rattle.bridge_tool.specs.Judging.{IsSound, Judges};
+ghost use Rattle.bridge_tool.specs.Breaks.{BreakNothing};
+ghost use Rattle.bridge_tool.specs.Checks.{tested_in};
+ghost use Rattle.bridge_tool.specs.Chosen.{Chosen};
 ghost use Rattle.bridge_tool.specs.Outside.{Rose};
-ghost use Rattle.bridge_tool.specs.Running.{Accepts, Answered, AreCommand, Declines, Ran, ended_with, world};
+ghost use Rattle.bridge_tool.specs.Reports.{TestFails, tested_of};
+ghost use Rattle.bridge_tool.specs.Sound.{AreSound};
+ghost use Rattle.bridge_tool.specs.Running.{Accepts, Answered, AreCommand, Declines, Ran, Refuses, Told, ended_with, world};
 
+use crate::borrow::reports_of;
 use crate::bytes::{Calls, ReadFault, read_all};
+use crate::faults::Report;
 use crate::judge::judge;
+use crate::lines::print_lines;
 use crate::page::print_page;
 use crate::printer::print_line;
+use crate::rules::faults_in;
 use crate::sink::{Sink, SinkFault};
 use crate::source::Source;
 use crate::status::Status;
 use crate::verdict::Verdict;
+use bridge_ast::modules::Module;
 use std::alloc::{AllocError, Global};
 
 /// Whether the words are a command: none, or `check`.
@@ -37,17 +47,63 @@ fn ended(verdict: Status, printed: Result<(), SinkFault>) -> Status
     }
 }
 
-/// Prints what a verdict says: the page, or one line.
-fn answer<K: Sink>(sink: &mut K, verdict: &Verdict) -> Status
-    requires { HasReports verdict.now }
+/// Prints the page of declarations that break no rule.
+fn accept<K: Sink>(alloc: Global, sink: &mut K, root: &Module) -> Status
+    requires sound { AreSound root.now }
+    requires keep { BreakNothing root.now }
+    ensures { Told root.now (K.taken sink.old) (K.taken sink.new) (K.faults sink.old) (K.faults sink.new) result }
+{
+    match reports_of(alloc, root) {
+        Ok(reports) => {
+            let printed = print_page(sink, root, &reports);
+            ended(Status::Accepted, printed)
+        }
+        Err(AllocError) => Status::NoMemory,
+    }
+}
+
+/// Prints the reports of declarations that have these faults.
+fn refuse<K: Sink>(sink: &mut K, root: &Module, faults: &[Report<'_>]) -> Status
+    requires some { 1 ≤ length faults.now }
+    requires faults { Chosen (TestFails root.now.items) (tested_in root.now.items) (map tested_of faults.now) }
+    ensures { Told root.now (K.taken sink.old) (K.taken sink.new) (K.faults sink.old) (K.faults sink.new) result }
+{
+    let printed = print_lines(sink, root, faults);
+    ended(Status::Refused, printed)
+}
+
+/// Prints the page of declarations, or the reports of their faults where they have any.
+fn tell_of<K: Sink>(alloc: Global, sink: &mut K, root: &Module, faults: &[Report<'_>]) -> Status
+    requires sound { AreSound root.now }
+    requires faults { Chosen (TestFails root.now.items) (tested_in root.now.items) (map tested_of faults.now) }
+    ensures { Told root.now (K.taken sink.old) (K.taken sink.new) (K.faults sink.old) (K.faults sink.new) result }
+{
+    if faults.is_empty() {
+        accept(alloc, sink, root)
+    } else {
+        refuse(sink, root, faults)
+    }
+}
+
+/// Tests the rules of declarations that fit together, and prints their page or their reports.
+fn tell<K: Sink>(alloc: Global, sink: &mut K, root: &Module) -> Status
+    requires { AreSound root.now }
+    ensures { Told root.now (K.taken sink.old) (K.taken sink.new) (K.faults sink.old) (K.faults sink.new) result }
+{
+    match faults_in(alloc, root) {
+        Ok(faults) => tell_of(alloc, sink, root, &faults),
+        Err(AllocError) => Status::NoMemory,
+    }
+}
+
+/// Prints what a verdict says: the page, the reports, or one line.
+fn answer<K: Sink>(alloc: Global, sink: &mut K, verdict: &Verdict) -> Status
+    requires { IsSound verdict.now }
     ensures { (bytes : List ℕ) → Judges bytes verdict.now
         → Answered bytes (K.taken sink.old) (K.taken sink.new) (K.faults sink.old) (K.faults sink.new) result }
 {
     match verdict {
-        Verdict::Accepted(root, reports) => {
-            let printed = print_page(sink, root, reports.as_slice());
-            ended(Status::Accepted, printed)
-        }
+        Verdict::Declarations(root) => tell(alloc, sink, root),
         Verdict::NotJson => {
             let printed = print_line(sink, "input: not JSON");
             ended(Status::NotDeclarations, printed)
@@ -64,7 +120,7 @@ fn check<K: Sink>(alloc: Global, bytes: &[u8], sink: &mut K) -> Status
     ensures { Answered bytes.now (K.taken sink.old) (K.taken sink.new) (K.faults sink.old) (K.faults sink.new) result }
 {
     match judge(alloc, bytes) {
-        Ok(verdict) => answer(sink, &verdict),
+        Ok(verdict) => answer(alloc, sink, &verdict),
         Err(AllocError) => Status::NoMemory,
     }
 }
@@ -91,18 +147,23 @@ fn run_to_status<S: Source, K: Sink>(
     }
 }
 
-/// Runs the program: reads all of the source, and prints to the sink the page of the declarations, or one line that says why
-/// there is none. The answer is the status of the program, at most 7.
+/// Runs the program: reads all of the source, and prints to the sink the page of the declarations, the reports of the rules that
+/// they break, or one line that says why there are no declarations. The answer is the status of the program, at most 7.
 ///
-/// The words are those after the program's name. Statuses: 0 where the declarations are accepted, 2 where the bytes spell no
-/// accepted declarations, 3 where a read failed, 4 where a write failed, 5 where memory ran out, 6 where the words are no
+/// The words are those after the program's name. Statuses: 0 where the declarations are accepted, 1 where they break
+/// a rule, 2 where the bytes spell no declarations that fit together, 3 where a read failed, 4 where a write failed, 5 where memory ran out, 6 where the words are no
 /// command, 7 where the source gave more than 2^26 bytes. With 3, 6 and 7 nothing is written.
 pub fn run<S: Source, K: Sink>(alloc: Global, words: &[String], source: &mut S, sink: &mut K) -> u8
     // 0: the bytes that the source had spell declarations that break no rule, and the sink took exactly their page.
     ensures accepted { result ≡ 0 → Accepts
         (world (S.left source.old) (S.faults source.old) (K.taken sink.old) (K.faults sink.old))
         (world (S.left source.new) (S.faults source.new) (K.taken sink.new) (K.faults sink.new)) }
-    // 2: the bytes that the source had spell no such declarations, and the sink took exactly the line that says so.
+    // 1: they spell declarations that break a rule, and the sink took exactly the lines of their reports: at least one, each of
+    // a broken rule at its place, and each broken rule at its place has one.
+    ensures refused { result ≡ 1 → Refuses
+        (world (S.left source.old) (S.faults source.old) (K.taken sink.old) (K.faults sink.old))
+        (world (S.left source.new) (S.faults source.new) (K.taken sink.new) (K.faults sink.new)) }
+    // 2: the bytes that the source had spell no declarations, and the sink took exactly the line that says so.
     ensures declined { result ≡ 2 → Declines
         (world (S.left source.old) (S.faults source.old) (K.taken sink.old) (K.faults sink.old))
         (world (S.left source.new) (S.faults source.new) (K.taken sink.new) (K.faults sink.new)) }
@@ -113,8 +174,7 @@ pub fn run<S: Source, K: Sink>(alloc: Global, words: &[String], source: &mut S, 
     // Only a failed read, or want of memory, leaves the source's count of faults raised, and likewise for the sink.
     ensures reads_steady { result ≢ 3 → result ≢ 5 → S.faults source.new ≡ S.faults source.old }
     ensures writes_steady { result ≢ 4 → result ≢ 5 → K.faults sink.new ≡ K.faults sink.old }
-    ensures unwritten { result ≢ 0 → result ≢ 2 → result ≢ 4 → result ≢ 5 → K.taken sink.new ≡ K.taken sink.old }
-    ensures no_reports_yet { result ≢ 1 }
+    ensures unwritten { result ≢ 0 → result ≢ 1 → result ≢ 2 → result ≢ 4 → result ≢ 5 → K.taken sink.new ≡ K.taken sink.old }
     ensures at_most_seven { result ≤ 7 }
 {
     run_to_status(alloc, words, source, sink).code()

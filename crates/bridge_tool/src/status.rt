@@ -8,7 +8,7 @@ ghost use Rattle.bridge_tool.specs.Statuses.{code_of};
 pub enum Status {
     /// 0: the declarations are accepted, and their page is printed.
     Accepted,
-    /// 1: the declarations break rules, and reports are printed. It doesn't come yet.
+    /// 1: the declarations break rules, and reports are printed.
     Refused,
     /// 2: the bytes aren't declarations, and one line is printed.
     NotDeclarations,

@@ -15,7 +15,7 @@ const NOT_JSON: &str = "input: not JSON\n";
 const NOT_BUILT: &str = "input: form not built at \"\"\n";
 
 // Inputs with the status and the text that belong to them.
-const INPUTS: [(&str, u8, &str); 12] = [
+const INPUTS: [(&str, u8, &str); 14] = [
     (r#"{"root":{}}"#, 0, "ok 0\n"),
     (PICK, 0, PICK_PAGE),
     // No bound from x: y doesn't outlive what is returned. The box names no lifetime.
@@ -36,18 +36,30 @@ const INPUTS: [(&str, u8, &str); 12] = [
     // A name that isn't an identifier, an unknown path and an unknown lifetime.
     (
         r#"{"root":{"items":[{"kind":"opaque","name":"match"}]}}"#,
-        2,
-        NOT_BUILT,
+        1,
+        "Lowering error in match\n  BadIdent: match is not a Rust identifier\nrefused 1\n",
+    ),
+    // An item of no name is left out of the place.
+    (
+        r#"{"root":{"items":[{"kind":"opaque","name":""}]}}"#,
+        1,
+        "Lowering error in root module\n  BadIdent:  is not a Rust identifier\nrefused 1\n",
+    ),
+    // The same fault in two methods is reported twice.
+    (
+        r#"{"root":{"items":[{"kind":"opaque","name":"O","methods":[{"name":"m1","self_type":{"segments":["O"]},"self":{"reference":{"lifetime":"a"},"path":{"segments":["O"]}},"lifetimes":[{"name":"a"}],"params":[{"name":"x","ty":{"ref":{"lifetime":"a","to":{"named":{"segments":["Q"]}}}}}]},{"name":"m2","self_type":{"segments":["O"]},"self":{"reference":{"lifetime":"a"},"path":{"segments":["O"]}},"lifetimes":[{"name":"a"}],"params":[{"name":"x","ty":{"ref":{"lifetime":"a","to":{"named":{"segments":["Q"]}}}}}]}]}]}}"#,
+        1,
+        "Lowering error in O::m1\n  UnresolvedPath: Q names nothing\nLowering error in O::m2\n  UnresolvedPath: Q names nothing\nrefused 2\n",
     ),
     (
         r#"{"root":{"items":[{"kind":"opaque","name":"O","methods":[{"name":"f","self_type":{"segments":["O"]},"ret":{"box":{"named":{"segments":["Q"]}}}}]}]}}"#,
-        2,
-        NOT_BUILT,
+        1,
+        "Lowering error in O::f\n  UnresolvedPath: Q names nothing\nrefused 1\n",
     ),
     (
         r#"{"root":{"items":[{"kind":"opaque","name":"O","methods":[{"name":"f","self_type":{"segments":["O"]},"ret":{"ref":{"lifetime":"c","to":{"named":{"segments":["O"]}}}}}]}]}}"#,
-        2,
-        NOT_BUILT,
+        1,
+        "Lowering error in O::f\n  LifetimeUnknown: lifetime 'c is not declared\nrefused 1\n",
     ),
     // Two items of one name, and a bound that stands at one of its ends.
     (

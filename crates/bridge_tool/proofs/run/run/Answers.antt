@@ -11,6 +11,7 @@ returns g c =
     let s = subst (λ (code : ℕ). Says c.args.words.now old new code) (sym c.code.ensures) (says c.args.words.now old new c.run_to_status.result c.run_to_status.ensures) in
     record {
       accepted = s.accepted;
+      refused = s.refused;
       declined = s.declined;
       read_failed = s.read_failed;
       write_failed = s.write_failed;
@@ -19,6 +20,5 @@ returns g c =
       reads_steady = s.reads_steady;
       writes_steady = s.writes_steady;
       unwritten = s.unwritten;
-      no_reports_yet = s.no_reports_yet;
       at_most_seven = s.at_most_seven;
     }

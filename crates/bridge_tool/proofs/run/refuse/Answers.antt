@@ -1,0 +1,10 @@
+use Rattle.bridge_tool.specs.Reports.{tested_of}
+use Rattle.bridge_tool.proofs.RefusalLemmas.{refused_by_faults}
+use Rattle.bridge_tool.proofs.RunLemmas.{told_reports}
+use Rattle.bridge_tool.proofs.run.refuse.Goals as goal
+
+pub returns : goal.returns
+returns g c =
+    rw c.ended.ensures
+    (told_reports g.K.Sink.taken g.K.Sink.faults _ _ c.args.root.now _ c.print_lines-printed.result c.print_lines-printed.ensures
+    (refused_by_faults tested_of c.args.root.now c.args.faults.now c.requires.some c.requires.faults))
