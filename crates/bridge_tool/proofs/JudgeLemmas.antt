@@ -1,8 +1,7 @@
 -- From the tests that failed to the rules that are broken.
-use Rattle.std.proofs.Common.{◌≡◌, ℕ, zero, suc, Bool, true, false, List, [], ◌∷◌, ◌++◌, length, map, get_or, Option, Some, refl, sym, subst, arith, inl, inr}
-use Rattle.std.specs.Prelude.{◌==◌, All, Contains, MatchBool}
+use Rattle.std.proofs.Common.{◌≡◌, ℕ, zero, suc, List, [], ◌∷◌, ◌++◌, map, get_or, Option, Some, refl, sym, subst, arith, inl, inr}
+use Rattle.std.specs.Prelude.{All, Contains}
 use Rattle.std.specs.List.{flat_map}
-use Rattle.std.proofs.lemmas.Bool.{eqb-true}
 use Rattle.std.proofs.lemmas.List.Concat.{flat_map-cons}
 use Rattle.std.proofs.lemmas.List.Elements.{Contains-append_left, Contains-append_right, Contains-get_or}
 use Rattle.bridge_ast.specs.declared.methods.Method.{Method}
@@ -12,7 +11,7 @@ use Rattle.bridge_ast.specs.Environments.{lifetime_names}
 use Rattle.bridge_ast.specs.Names.{item_name, path_text}
 use Rattle.bridge_tool.specs.declared.rules.Rule.TheVariants as rule
 use Rattle.bridge_tool.specs.Breaks.{BreakNothing}
-use Rattle.bridge_tool.specs.Checks.{Check, name, path, lifetime, Tested, Fails, tested_in, tested_in_item, tested_in_method, method_checks, method_names, method_paths}
+use Rattle.bridge_tool.specs.Checks.{Check, name, path, lifetime, Fails, tested_in, tested_in_item, tested_in_method, method_checks, method_names, method_paths}
 use Rattle.bridge_tool.specs.Chosen.{Chosen}
 use Rattle.serde_json.specs.Data.{Data}
 use Rattle.serde_json.specs.Read.{read}

@@ -1,6 +1,7 @@
 pub mod BorrowLemmas
 pub mod BoundsLemmas
 pub mod ChosenLemmas
+pub mod HeadlineLemmas
 pub mod IndexLemmas
 pub mod ItemLaws
 pub mod JoinedLists

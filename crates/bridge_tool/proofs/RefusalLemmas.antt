@@ -1,10 +1,10 @@
 -- From the tests that failed to the reports of the rules that are broken.
-use Rattle.std.proofs.Common.{◌≡◌, ◌≤◌, ℕ, zero, suc, Bool, true, false, List, [], ◌∷◌, length, map, Option, refl, sym, ap, ◌∙◌, subst, arith, inl, inr}
+use Rattle.std.proofs.Common.{◌≡◌, ◌≤◌, ℕ, zero, suc, Bool, true, false, List, [], ◌∷◌, length, map, Option, refl, sym, ◌∙◌, subst, arith, inl, inr}
 use Rattle.std.specs.Prelude.{◌==◌, Contains}
 use Rattle.std.proofs.lemmas.Bool.{eqb-true}
 use Rattle.std.proofs.lemmas.List.{length-map}
 use Rattle.bridge_ast.specs.declared.modules.Module.{Module}
-use Rattle.bridge_ast.specs.Names.{Place, path_text}
+use Rattle.bridge_ast.specs.Names.{Place}
 use Rattle.bridge_tool.specs.declared.rules.Rule.{Rule}
 use Rattle.bridge_tool.specs.declared.rules.Rule.TheVariants as rule
 use Rattle.bridge_tool.specs.Breaks.{Breaks, BreakNothing}

@@ -4,6 +4,7 @@ pub mod Bounds
 pub mod Breaks
 pub mod Checks
 pub mod Chosen
+pub mod Headline
 pub mod Index
 pub mod Judging
 pub mod Keys

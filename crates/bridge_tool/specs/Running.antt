@@ -1,5 +1,5 @@
 -- What a run of the program does to the outside.
-use Rattle.std.specs.Prelude.{◌≡◌, ◌<◌, ◌^◌, ◌⊎◌, ℕ, List, [], ◌∷◌, length, map, codes, string_bytes, Option, Some, IfSome, String, Result, Ok, Err}
+use Rattle.std.specs.Prelude.{◌≡◌, ◌≤◌, ◌<◌, ◌^◌, ◌⊎◌, ◌++◌, ℕ, List, [], ◌∷◌, length, map, codes, string_bytes, Option, Some, IfSome, String, Result, Ok, Err}
 use Rattle.std.specs.declared.alloc.Global.{Global}
 use Rattle.bridge_ast.specs.declared.modules.Module.{Module}
 use Rattle.bridge_tool.specs.declared.sink.SinkFault.{SinkFault}
@@ -37,9 +37,10 @@ pub record AreAccepted (bytes : List ℕ) (root : Module) : Type 0 where
   pub spells : Spells bytes root
   pub keeps : BreakNothing root
 
--- these are all the bytes that the source had, and it has none left
+-- these are all the bytes that the source had, at most 2^26, and it has none left
 pub record WereRead (old new : World) (bytes : List ℕ) : Type 0 where
   pub all : IfSome old.left (λ had. bytes ≡ had)
+  pub short : length bytes ≤ 2 ^ 26
   pub none_left : IfSome old.left (λ had. new.left ≡ Some [])
   pub no_fault : new.read_faults ≡ old.read_faults
 
@@ -92,11 +93,38 @@ pub record Declines (old new : World) : Type 0 where
   pub declined : IsDeclinedBy bytes line
   pub taken : WasTaken old new line
 
--- no read failed, and then a write did: the sink took a first part of what would have been printed
+-- the text that answers declarations: their page where they break no rule, else the lines of their reports
+abbrev pub IsTextOf : Module → List ℕ → Type 0
+IsTextOf root text =
+    (BreakNothing root × IsPage root text) ⊎ ((reports : List Reported) × AreRefusedBy root reports × (text ≡ lines reports))
+
+-- the text that answers bytes: that of the declarations that they spell, or the line that declines them
+abbrev pub IsAnswerTo : List ℕ → List ℕ → Type 0
+IsAnswerTo bytes text = ((root : Module) × Spells bytes root × IsTextOf root text) ⊎ IsDeclinedBy bytes text
+
+-- the sink took a first part of a text of which P holds
+pub record FirstPart (P : List ℕ → Type 0) (taken taken' : Option (List ℕ)) : Type 0 where
+  pub text : List ℕ
+  pub of : P text
+  pub sent : List ℕ
+  pub rest : List ℕ
+  pub parts : sent ++ rest ≡ text
+  pub took : taken' ≡ taken_with taken sent
+
+-- the sink took nothing, or a first part of a text of which P holds
+abbrev pub IsCutOff : (List ℕ → Type 0) → Option (List ℕ) → Option (List ℕ) → Type 0
+IsCutOff P taken taken' = (taken' ≡ taken) ⊎ FirstPart P taken taken'
+
+-- the sink took nothing, or a first part of the text that answers the bytes that were read
+abbrev pub IsUnfinished : World → World → Type 0
+IsUnfinished old new = (new.taken ≡ old.taken) ⊎ ((bytes : List ℕ) × WereRead old new bytes × FirstPart (IsAnswerTo bytes) old.taken new.taken)
+
+-- no read failed, and then a write did
 pub record WriteFails (old new : World) : Type 0 where
   pub bytes : List ℕ
   pub read : WereRead old new bytes
   pub failed : Rose old.write_faults new.write_faults
+  pub cut_off : IsCutOff (IsAnswerTo bytes) old.taken new.taken
 
 -- what happened, by the status that it ends with
 abbrev pub Ran : List (String Global) → World → World → Status → Type 0
@@ -105,7 +133,7 @@ Ran words old new status.Refused = AreCommand words × Refuses old new
 Ran words old new status.NotDeclarations = AreCommand words × Declines old new
 Ran words old new status.ReadFailed = AreCommand words × Rose old.read_faults new.read_faults × NothingTaken old new
 Ran words old new status.WriteFailed = AreCommand words × WriteFails old new
-Ran words old new status.NoMemory = AreCommand words
+Ran words old new status.NoMemory = AreCommand words × IsUnfinished old new
 Ran words old new status.BadWords = ¬ (AreCommand words) × (new ≡ old)
 Ran words old new status.TooLong =
     AreCommand words × IfSome old.left (λ had. 2 ^ 26 < length had) × (new.read_faults ≡ old.read_faults) × NothingTaken old new
@@ -124,8 +152,8 @@ Told root taken taken' faults faults' status.Refused =
     (reports : List Reported) × AreRefusedBy root reports × (taken' ≡ taken_with taken (lines reports)) × (faults' ≡ faults)
 Told root taken taken' faults faults' status.NotDeclarations = ⊥
 Told root taken taken' faults faults' status.ReadFailed = ⊥
-Told root taken taken' faults faults' status.WriteFailed = Rose faults faults'
-Told root taken taken' faults faults' status.NoMemory = Unit {0}
+Told root taken taken' faults faults' status.WriteFailed = Rose faults faults' × IsCutOff (IsTextOf root) taken taken'
+Told root taken taken' faults faults' status.NoMemory = IsCutOff (IsTextOf root) taken taken'
 Told root taken taken' faults faults' status.BadWords = ⊥
 Told root taken taken' faults faults' status.TooLong = ⊥
 
@@ -138,7 +166,7 @@ Answered bytes taken taken' faults faults' status.Refused =
 Answered bytes taken taken' faults faults' status.NotDeclarations =
     (line : List ℕ) × IsDeclinedBy bytes line × (taken' ≡ taken_with taken line) × (faults' ≡ faults)
 Answered bytes taken taken' faults faults' status.ReadFailed = ⊥
-Answered bytes taken taken' faults faults' status.WriteFailed = Rose faults faults'
-Answered bytes taken taken' faults faults' status.NoMemory = Unit {0}
+Answered bytes taken taken' faults faults' status.WriteFailed = Rose faults faults' × IsCutOff (IsAnswerTo bytes) taken taken'
+Answered bytes taken taken' faults faults' status.NoMemory = IsCutOff (IsAnswerTo bytes) taken taken'
 Answered bytes taken taken' faults faults' status.BadWords = ⊥
 Answered bytes taken taken' faults faults' status.TooLong = ⊥

@@ -28,6 +28,10 @@ failure_count it = it.faults
 abbrev pub plain_left : PlainSource → List ℕ
 plain_left it = it.rest.now
 
+-- how often it was read
+abbrev pub plain_calls : PlainSource → ℕ
+plain_calls it = it.calls
+
 -- what one of std's readers is read through
 abbrev pub std_reader : {R : Type 0} → StdSource R → R
 std_reader it = it.reader
@@ -35,3 +39,7 @@ std_reader it = it.reader
 -- how often it failed
 abbrev pub std_failures : {R : Type 0} → StdSource R → ℕ
 std_failures it = it.failures
+
+-- how often it was read
+abbrev pub std_calls : {R : Type 0} → StdSource R → ℕ
+std_calls it = it.calls

@@ -6,7 +6,6 @@ ghost use Rattle.bridge_tool.specs.Whole.{HasReadCause, IsReadAnswer};
 
 use crate::source::{Failed, Source};
 use std::alloc::{AllocError, Global};
-use std::marker::Model;
 
 // The most bytes that are read.
 const MOST: usize = 1 << 26;
@@ -35,58 +34,16 @@ impl From<AllocError> for ReadFault {
     }
 }
 
-/// How many reads were made. Only the one function here that calls `read` raises it.
-#[derive(Drop)]
-pub struct Calls {
-    made: usize,
-}
-
-impl Model for Calls {
-    ghost Value = { ℕ };
-
-    ghost view = { λ it. it.made };
-}
-
-impl Calls {
-    /// No read yet.
-    pub fn new() -> Self
-        ensures { result ≡ 0 }
-    {
-        Calls { made: 0 }
-    }
-}
-
-// One read, counted.
-fn counted_read<S: Source>(
-    source: &mut S,
-    buf: &mut [u8],
-    calls: &mut Calls,
-) -> Result<usize, Failed>
-    requires { calls.old + 1 < 2 ^ 64 }
-    ensures reads { Reads (S.left source.old) (S.left source.new)
-        (S.faults source.old) (S.faults source.new) buf.old buf.new result }
-    ensures counted { calls.new ≡ calls.old + 1 }
-{
-    calls.made += 1;
-    source.read(buf)
-}
-
 // One read into the buffer behind its first `len` bytes.
-fn read_behind<S: Source>(
-    source: &mut S,
-    bytes: &mut Vec<u8>,
-    len: usize,
-    calls: &mut Calls,
-) -> Result<usize, Failed>
-    requires room { len ≤ vec_len bytes.old }
-    requires countable { calls.old + 1 < 2 ^ 64 }
+fn read_behind<S: Source>(source: &mut S, bytes: &mut Vec<u8>, len: usize) -> Result<usize, Failed>
+    requires { len ≤ vec_len bytes.old }
     ensures reads { Reads (S.left source.old) (S.left source.new)
         (S.faults source.old) (S.faults source.new) (drop len bytes.old.items) (drop len bytes.new.items) result }
     ensures front { take len bytes.new.items ≡ take len bytes.old.items }
     ensures len { vec_len bytes.new ≡ vec_len bytes.old }
-    ensures counted { calls.new ≡ calls.old + 1 }
+    ensures one_call { S.calls source.new ≤ S.calls source.old + 1 }
 {
-    counted_read(source, &mut bytes[len..], calls)
+    source.read(&mut bytes[len..])
 }
 
 // Makes room behind the first `len` bytes.
@@ -105,14 +62,8 @@ fn make_room(bytes: &mut Vec<u8>, len: usize) -> Result<(), AllocError>
 }
 
 /// All the bytes that the source has left. `Failed` where a read failed, `TooLong` where the source
-/// gives more than 2^26 bytes, `NoMemory` for want of memory. It makes at most 2^26 + 1 reads,
-/// which `calls` counts.
-pub fn read_all<S: Source>(
-    alloc: Global,
-    source: &mut S,
-    calls: &mut Calls,
-) -> Result<Vec<u8>, ReadFault>
-    requires { calls.old ≡ 0 }
+/// gives more than 2^26 bytes, `NoMemory` for want of memory. It makes at most 2^26 + 1 reads.
+pub fn read_all<S: Source>(alloc: Global, source: &mut S) -> Result<Vec<u8>, ReadFault>
     ensures whole { IfOk result (λ bytes. IfSome (S.left source.old) (λ all. bytes.items ≡ all)) }
     ensures at_end { OnOk result (IfSome (S.left source.old) (λ _. S.left source.new ≡ Some [])) }
     ensures short { IfOk result (λ bytes. vec_len bytes ≤ 2 ^ 26) }
@@ -124,13 +75,13 @@ pub fn read_all<S: Source>(
         ¬ Rose (S.faults source.old) (S.faults source.new) → IsReadAnswer all result) }
     ensures rest { (n : ℕ) × (S.left source.new ≡ left_after n (S.left source.old)) }
     ensures never_falls { S.faults source.old ≤ S.faults source.new }
-    ensures few_reads { calls.new ≤ 2 ^ 26 + 1 }
+    ensures few_reads { S.calls source.new ≤ S.calls source.old + (2 ^ 26 + 1) }
 {
     let mut bytes = Vec::new(alloc);
     let mut len = 0;
     while len <= MOST {
         make_room(&mut bytes, len)?;
-        match read_behind(source, &mut bytes, len, calls) {
+        match read_behind(source, &mut bytes, len) {
             Ok(0) => {
                 bytes.truncate(len);
                 return Ok(bytes);

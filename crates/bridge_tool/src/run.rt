@@ -1,17 +1,18 @@
 //! The whole program over any source and any sink.
 
-ghost use Rattle.std.specs.Prelude.{◌≡◌, ◌≢◌, ◌≤◌, ◌<◌, ◌^◌, ◌↔◌, ℕ, List, length, map, IfSome, IsTrue};
+ghost use Rattle.std.specs.Prelude.{◌≡◌, ◌≢◌, ◌≤◌, ◌<◌, ◌+◌, ◌^◌, ◌↔◌, ◌⊎◌, ℕ, List, length, map, IfSome, IsTrue};
 ghost use Rattle.bridge_tool.specs.Judging.{IsSound, Judges};
 ghost use Rattle.bridge_tool.specs.Breaks.{BreakNothing};
 ghost use Rattle.bridge_tool.specs.Checks.{tested_in};
 ghost use Rattle.bridge_tool.specs.Chosen.{Chosen};
-ghost use Rattle.bridge_tool.specs.Outside.{Rose};
+ghost use Rattle.bridge_tool.specs.Headline.{Headline, IsComplete, IsUndisturbed};
+ghost use Rattle.bridge_tool.specs.Outside.{Rose, left_after};
 ghost use Rattle.bridge_tool.specs.Reports.{TestFails, tested_of};
 ghost use Rattle.bridge_tool.specs.Sound.{AreSound};
-ghost use Rattle.bridge_tool.specs.Running.{Accepts, Answered, AreCommand, Declines, Ran, Refuses, Told, ended_with, world};
+ghost use Rattle.bridge_tool.specs.Running.{Accepts, Answered, AreCommand, Declines, IsUnfinished, Ran, Refuses, Spells, Told, ended_with, world};
 
 use crate::borrow::reports_of;
-use crate::bytes::{Calls, ReadFault, read_all};
+use crate::bytes::{ReadFault, read_all};
 use crate::faults::Report;
 use crate::judge::judge;
 use crate::lines::print_lines;
@@ -132,14 +133,16 @@ fn run_to_status<S: Source, K: Sink>(
     source: &mut S,
     sink: &mut K,
 ) -> Status
-    ensures { Ran words.now (world (S.left source.old) (S.faults source.old) (K.taken sink.old) (K.faults sink.old))
+    ensures ran { Ran words.now (world (S.left source.old) (S.faults source.old) (K.taken sink.old) (K.faults sink.old))
         (world (S.left source.new) (S.faults source.new) (K.taken sink.new) (K.faults sink.new)) result }
+    ensures few_reads { S.calls source.new ≤ S.calls source.old + (2 ^ 26 + 2) }
+    ensures rest { (n : ℕ) × (S.left source.new ≡ left_after n (S.left source.old)) }
+    ensures untouched { result ≡ Status.BadWords → source.new ≡ source.old }
 {
     if !are_command(words) {
         return Status::BadWords;
     }
-    let mut calls = Calls::new();
-    match read_all(alloc, source, &mut calls) {
+    match read_all(alloc, source) {
         Ok(bytes) => check(alloc, &bytes, sink),
         Err(ReadFault::Failed) => Status::ReadFailed,
         Err(ReadFault::TooLong) => Status::TooLong,
@@ -147,13 +150,27 @@ fn run_to_status<S: Source, K: Sink>(
     }
 }
 
-/// Runs the program: reads all of the source, and prints to the sink the page of the declarations, the reports of the rules that
-/// they break, or one line that says why there are no declarations. The answer is the status of the program, at most 7.
+/// Runs the program: reads all of the source, and prints to the sink the page of the declarations, the reports of the rules
+/// that they break, or one line that says why there are no declarations. The answer is the status of the program, at most 7.
 ///
 /// The words are those after the program's name. Statuses: 0 where the declarations are accepted, 1 where they break
-/// a rule, 2 where the bytes spell no declarations that fit together, 3 where a read failed, 4 where a write failed, 5 where memory ran out, 6 where the words are no
-/// command, 7 where the source gave more than 2^26 bytes. With 3, 6 and 7 nothing is written.
+/// a rule, 2 where the bytes spell no declarations that fit together, 3 where a read failed, 4 where a write failed, 5 where
+/// memory ran out, 6 where the words are no command, 7 where the source gave more than 2^26 bytes. With 3, 6 and 7 nothing is
+/// written, and with 6 nothing is read. It makes at most 2^26 + 2 reads.
 pub fn run<S: Source, K: Sink>(alloc: Global, words: &[String], source: &mut S, sink: &mut K) -> u8
+    // Where the source's bytes are told, at most 2^26, and spell declarations, and nothing fails: it ends with 0 exactly where no
+    // declaration breaks a rule, and prints their page; else it ends with 1, and prints reports of the broken rules.
+    ensures headline { (had : List ℕ) (root : Module) → IsUndisturbed words.now
+        (world (S.left source.old) (S.faults source.old) (K.taken sink.old) (K.faults sink.old))
+        (world (S.left source.new) (S.faults source.new) (K.taken sink.new) (K.faults sink.new)) had
+        → length had ≤ 2 ^ 26 → Spells had root → result ≢ 5 → Headline root
+        (world (S.left source.old) (S.faults source.old) (K.taken sink.old) (K.faults sink.old))
+        (world (S.left source.new) (S.faults source.new) (K.taken sink.new) (K.faults sink.new)) result }
+    // The same, with want of memory as the one other answer, and 2 where the bytes spell no declarations.
+    ensures complete { (had : List ℕ) → IsUndisturbed words.now
+        (world (S.left source.old) (S.faults source.old) (K.taken sink.old) (K.faults sink.old))
+        (world (S.left source.new) (S.faults source.new) (K.taken sink.new) (K.faults sink.new)) had
+        → length had ≤ 2 ^ 26 → IsComplete had result }
     // 0: the bytes that the source had spell declarations that break no rule, and the sink took exactly their page.
     ensures accepted { result ≡ 0 → Accepts
         (world (S.left source.old) (S.faults source.old) (K.taken sink.old) (K.faults sink.old))
@@ -169,12 +186,26 @@ pub fn run<S: Source, K: Sink>(alloc: Global, words: &[String], source: &mut S, 
         (world (S.left source.new) (S.faults source.new) (K.taken sink.new) (K.faults sink.new)) }
     ensures read_failed { result ≡ 3 → Rose (S.faults source.old) (S.faults source.new) }
     ensures write_failed { result ≡ 4 → Rose (K.faults sink.old) (K.faults sink.new) }
+    // 4 and 5: the sink took nothing, or a first part of the text that answers the bytes with another status.
+    ensures cut_off { (result ≡ 4) ⊎ (result ≡ 5) → IsUnfinished
+        (world (S.left source.old) (S.faults source.old) (K.taken sink.old) (K.faults sink.old))
+        (world (S.left source.new) (S.faults source.new) (K.taken sink.new) (K.faults sink.new)) }
     ensures bad_words { (result ≡ 6) ↔ ¬ (AreCommand words.now) }
     ensures too_long { result ≡ 7 → IfSome (S.left source.old) (λ had. 2 ^ 26 < length had) }
+    // More than 2^26 bytes are always 7, where they are told and nothing fails, or want of memory.
+    ensures always_too_long { (had : List ℕ) → IsUndisturbed words.now
+        (world (S.left source.old) (S.faults source.old) (K.taken sink.old) (K.faults sink.old))
+        (world (S.left source.new) (S.faults source.new) (K.taken sink.new) (K.faults sink.new)) had
+        → 2 ^ 26 < length had → (result ≡ 7) ⊎ (result ≡ 5) }
     // Only a failed read, or want of memory, leaves the source's count of faults raised, and likewise for the sink.
     ensures reads_steady { result ≢ 3 → result ≢ 5 → S.faults source.new ≡ S.faults source.old }
     ensures writes_steady { result ≢ 4 → result ≢ 5 → K.faults sink.new ≡ K.faults sink.old }
-    ensures unwritten { result ≢ 0 → result ≢ 1 → result ≢ 2 → result ≢ 4 → result ≢ 5 → K.taken sink.new ≡ K.taken sink.old }
+    ensures unwritten { (result ≡ 3) ⊎ (result ≡ 6) ⊎ (result ≡ 7) → K.taken sink.new ≡ K.taken sink.old }
+    ensures unread { result ≡ 6 → source.new ≡ source.old }
+    // Also where nothing is told of the bytes.
+    ensures few_reads { S.calls source.new ≤ S.calls source.old + (2 ^ 26 + 2) }
+    // What the source has left is the end of what it had, whatever the status.
+    ensures rest { (n : ℕ) × (S.left source.new ≡ left_after n (S.left source.old)) }
     ensures at_most_seven { result ≤ 7 }
 {
     run_to_status(alloc, words, source, sink).code()

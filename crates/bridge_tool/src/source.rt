@@ -19,12 +19,16 @@ pub trait Source {
     /// How often a read failed, up to the last value of its type. It never falls.
     ghost faults: { Self → ℕ };
 
+    /// How often it was read, as far as it counts that: a read adds at most one.
+    ghost calls: { Self → ℕ };
+
     /// Moves the first bytes left to the front of `buf`, and answers how many. For a `buf` with
     /// room that is 0 only at the end. `Failed` where the read failed: then all is left as it was,
     /// and the count of faults rose.
     fn read(&mut self, buf: &mut [u8]) -> Result<usize, Failed>
-        ensures { Reads (left self.old) (left self.new) (faults self.old) (faults self.new)
-            buf.old buf.new result };
+        ensures reads { Reads (left self.old) (left self.new) (faults self.old) (faults self.new)
+            buf.old buf.new result }
+        ensures one_call { calls self.new ≤ calls self.old + 1 };
 }
 
 // Copies as many of the first bytes of `rest` as `most` and the room allow.
@@ -81,9 +85,12 @@ impl Source for MemSource {
 
     ghost faults = { λ it. failure_count it };
 
+    ghost calls = { λ it. next_call it };
+
     fn read(&mut self, buf: &mut [u8]) -> Result<usize, Failed>
         ensures reads { Reads (Some (bytes_left self.old)) (Some (bytes_left self.new))
             (failure_count self.old) (failure_count self.new) buf.old buf.new result }
+        ensures one_call { next_call self.new ≤ next_call self.old + 1 }
         // It fails exactly at the listed calls.
         ensures listed { IsErr result ↔ Contains (failing_calls self.old) (next_call self.old) }
         // It gives as much as the piece and the room allow.
@@ -109,31 +116,41 @@ impl Source for MemSource {
 #[derive(Drop)]
 pub struct PlainSource<'a> {
     rest: &'a [u8],
+    calls: u64,
 }
 
 impl<'a> PlainSource<'a> {
-    ghost use Rattle.bridge_tool.specs.Sources.{plain_left};
+    ghost use Rattle.bridge_tool.specs.Sources.{plain_left, plain_calls};
 
     /// A source of these bytes.
     pub fn new(bytes: &'a [u8]) -> Self
-        ensures { plain_left result ≡ bytes.entry.now }
+        ensures bytes { plain_left result ≡ bytes.entry.now }
+        ensures calls { plain_calls result ≡ 0 }
     {
-        PlainSource { rest: bytes }
+        PlainSource {
+            rest: bytes,
+            calls: 0,
+        }
     }
 }
 
 impl Source for PlainSource<'_> {
-    ghost use Rattle.bridge_tool.specs.Sources.{plain_left};
+    ghost use Rattle.bridge_tool.specs.Sources.{plain_left, plain_calls};
 
     ghost left = { λ it. Some (plain_left it) };
 
     ghost faults = { λ _. 0 };
 
+    ghost calls = { λ it. plain_calls it };
+
     fn read(&mut self, buf: &mut [u8]) -> Result<usize, Failed>
         ensures reads { Reads (Some (plain_left self.old)) (Some (plain_left self.new)) 0 0
             buf.old buf.new result }
+        ensures one_call { plain_calls self.new ≤ plain_calls self.old + 1 }
         ensures never_fails { IsOk result }
+        ensures counted { plain_calls self.new ≡ min (plain_calls self.old + 1) (2 ^ 64 - 1) }
     {
+        self.calls = self.calls.saturating_add(1);
         let n = copy_front(self.rest, self.rest.len(), buf);
         self.rest = self.rest.split_at(n).1;
         Ok(n)
@@ -146,38 +163,46 @@ impl Source for PlainSource<'_> {
 pub struct StdSource<R> {
     reader: R,
     failures: u64,
+    calls: u64,
 }
 
 impl<R: Read> StdSource<R> {
-    ghost use Rattle.bridge_tool.specs.Sources.{std_reader, std_failures};
+    ghost use Rattle.bridge_tool.specs.Sources.{std_reader, std_failures, std_calls};
 
     /// A source of what the reader gives.
     pub fn new(reader: R) -> StdSource<R>
         ensures reader { std_reader result ≡ reader }
         ensures faults { std_failures result ≡ 0 }
+        ensures calls { std_calls result ≡ 0 }
     {
         StdSource {
             reader,
             failures: 0,
+            calls: 0,
         }
     }
 }
 
 impl<R: Read> Source for StdSource<R> {
     ghost use Rattle.std.specs.Io.KnownBytes.{ReadConsumes};
-    ghost use Rattle.bridge_tool.specs.Sources.{std_reader, std_failures};
+    ghost use Rattle.bridge_tool.specs.Sources.{std_reader, std_failures, std_calls};
 
     ghost left = { λ _. None };
 
     ghost faults = { λ it. std_failures it };
 
+    ghost calls = { λ it. std_calls it };
+
     fn read(&mut self, buf: &mut [u8]) -> Result<usize, Failed>
         ensures reads { Reads None None (std_failures self.old) (std_failures self.new)
             buf.old buf.new result }
+        ensures one_call { std_calls self.new ≤ std_calls self.old + 1 }
         // Where the reader knows its bytes, these are the next of them.
         ensures bytes { ReadConsumes (R.remaining (std_reader self.old)) (R.remaining (std_reader self.new))
             result buf.new }
+        ensures counted { std_calls self.new ≡ min (std_calls self.old + 1) (2 ^ 64 - 1) }
     {
+        self.calls = self.calls.saturating_add(1);
         match self.reader.read(buf) {
             Ok(n) => Ok(n),
             Err(_) => {

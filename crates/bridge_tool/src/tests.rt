@@ -1,5 +1,6 @@
 //! Tests, one module a subject.
 
+mod inputs;
 mod outside;
 mod reading;
 mod running;

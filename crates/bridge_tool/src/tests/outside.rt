@@ -1,6 +1,6 @@
 //! Sources, sinks, reading and printing at each type, in pieces and with calls that fail.
 
-use crate::bytes::{Calls, ReadFault, read_all};
+use crate::bytes::{ReadFault, read_all};
 use crate::printer::{
     Printer, finish, print_line, put, put_line, put_number, put_numbers, put_text,
 };
@@ -30,8 +30,7 @@ fn reads_pieces_up_to_a_failing_read(rt: HostRuntime) -> Result<(), Fail> {
     ];
     for (piece, fail, want) in rows {
         let mut source = MemSource::new(alloc, TEXT, piece.max(1), &[fail])?;
-        let mut calls = Calls::new();
-        let read = read_all(alloc, &mut source, &mut calls);
+        let read = read_all(alloc, &mut source);
         if let Ok(bytes) = &read {
             assert_eq!(rt; bytes.as_slice(), TEXT, "pieces of {piece}");
         }
@@ -50,23 +49,6 @@ fn reads_on_after_a_failure(rt: HostRuntime) -> Result<(), Fail> {
     assert_eq!(rt; source.read(&mut buf), Ok(1));
     assert_eq!(rt; buf, *b"cb..");
     assert_eq!(rt; source.read(&mut buf), Ok(0));
-    Ok(())
-}
-
-// How many bytes are read of so many.
-fn read_zeros(alloc: Global, count: usize) -> Result<Result<usize, ReadFault>, AllocError> {
-    let zeros = vec![in alloc; 0; count]?;
-    let mut calls = Calls::new();
-    let read = read_all(alloc, &mut PlainSource::new(&zeros), &mut calls);
-    Ok(read.map(|bytes| bytes.len()))
-}
-
-#[test]
-fn reads_two_to_the_26_and_no_more(rt: HostRuntime) -> Result<(), Fail> {
-    let most = 1 << 26;
-    assert_eq!(rt; read_zeros(rt.alloc(), 0)?, Ok(0));
-    assert_eq!(rt; read_zeros(rt.alloc(), most)?, Ok(most));
-    assert_eq!(rt; read_zeros(rt.alloc(), most + 1)?, Err(ReadFault::TooLong));
     Ok(())
 }
 
@@ -99,8 +81,7 @@ impl Write for Broken {
 #[test]
 fn adapts_the_readers_and_writers_of_std(rt: HostRuntime) -> Result<(), Fail> {
     let alloc = rt.alloc();
-    let mut calls = Calls::new();
-    let read = read_all(alloc, &mut StdSource::new(TEXT), &mut calls);
+    let read = read_all(alloc, &mut StdSource::new(TEXT));
     assert_eq!(rt; read?.as_slice(), TEXT);
     let mut broken = StdSource::new(Broken { writes: false });
     assert_eq!(rt; broken.read(&mut [0; 4]), Err(Failed));

@@ -1,78 +1,9 @@
+use super::inputs::{INPUTS, NOT_JSON, PICK, PICK_PAGE};
 use crate::run::run;
 use crate::sink::{MemSink, PlainSink};
 use crate::source::{MemSource, PlainSource};
 use std::alloc::{AllocError, Global};
 use std::test::*;
-
-const PICK: &str =
-    r#"{"root":{"items":[{"kind":"opaque","name":"O","methods":[{"name":"pick","self_type":{"segments":["O"]},"self":{"reference":{"lifetime":"a"},"path":{"segments":["O"]}},"lifetimes":[{"name":"a","longer":[1]},{"name":"b","shorter":[0]}],"params":[{"name":"y","ty":{"ref":{"lifetime":"b","to":{"named":{"segments":["O"]}}}}}],"ret":{"ref":{"lifetime":"a","to":{"named":{"segments":["O"]}}}}}]}]}}"#;
-
-const PICK_PAGE: &str =
-    "callable O::pick\n  lifetime 0 a: this, y\n  edges: opaque this, opaque y\nok 1\n";
-
-const NOT_JSON: &str = "input: not JSON\n";
-
-const NOT_BUILT: &str = "input: form not built at \"\"\n";
-
-// Inputs with the status and the text that belong to them.
-const INPUTS: [(&str, u8, &str); 14] = [
-    (r#"{"root":{}}"#, 0, "ok 0\n"),
-    (PICK, 0, PICK_PAGE),
-    // No bound from x: y doesn't outlive what is returned. The box names no lifetime.
-    (
-        r#"{"root":{"items":[{"kind":"opaque","name":"O","methods":[{"name":"f","self_type":{"segments":["O"]},"lifetimes":[{"name":"a"},{"name":"b"}],"params":[{"name":"x","ty":{"ref":{"lifetime":"a","to":{"named":{"segments":["O"]}}}}},{"name":"y","ty":{"ref":{"lifetime":"b","to":{"named":{"segments":["O"]}}}}}],"ret":{"ref":{"lifetime":"b","to":{"named":{"segments":["O"]}}}}},{"name":"g","self_type":{"segments":["O"]},"ret":{"box":{"named":{"segments":["O"]}}}}]}]}}"#,
-        0,
-        "callable O::f\n  lifetime 1 b: y\n  edges: opaque y\ncallable O::g\nok 2\n",
-    ),
-    // Nothing carries what is returned.
-    (
-        r#"{"root":{"items":[{"kind":"opaque","name":"O","methods":[{"name":"f","self_type":{"segments":["O"]},"lifetimes":[{"name":"a"}],"ret":{"ref":{"lifetime":"a","to":{"named":{"segments":["O"]}}}}}]}]}}"#,
-        0,
-        "callable O::f\n  lifetime 0 a:\n  edges:\nok 1\n",
-    ),
-    ("", 2, NOT_JSON),
-    (r#"{"root":{"#, 2, NOT_JSON),
-    (r#"{"root":{},"colour":1}"#, 2, NOT_BUILT),
-    // A name that isn't an identifier, an unknown path and an unknown lifetime.
-    (
-        r#"{"root":{"items":[{"kind":"opaque","name":"match"}]}}"#,
-        1,
-        "Lowering error in match\n  BadIdent: match is not a Rust identifier\nrefused 1\n",
-    ),
-    // An item of no name is left out of the place.
-    (
-        r#"{"root":{"items":[{"kind":"opaque","name":""}]}}"#,
-        1,
-        "Lowering error in root module\n  BadIdent:  is not a Rust identifier\nrefused 1\n",
-    ),
-    // The same fault in two methods is reported twice.
-    (
-        r#"{"root":{"items":[{"kind":"opaque","name":"O","methods":[{"name":"m1","self_type":{"segments":["O"]},"self":{"reference":{"lifetime":"a"},"path":{"segments":["O"]}},"lifetimes":[{"name":"a"}],"params":[{"name":"x","ty":{"ref":{"lifetime":"a","to":{"named":{"segments":["Q"]}}}}}]},{"name":"m2","self_type":{"segments":["O"]},"self":{"reference":{"lifetime":"a"},"path":{"segments":["O"]}},"lifetimes":[{"name":"a"}],"params":[{"name":"x","ty":{"ref":{"lifetime":"a","to":{"named":{"segments":["Q"]}}}}}]}]}]}}"#,
-        1,
-        "Lowering error in O::m1\n  UnresolvedPath: Q names nothing\nLowering error in O::m2\n  UnresolvedPath: Q names nothing\nrefused 2\n",
-    ),
-    (
-        r#"{"root":{"items":[{"kind":"opaque","name":"O","methods":[{"name":"f","self_type":{"segments":["O"]},"ret":{"box":{"named":{"segments":["Q"]}}}}]}]}}"#,
-        1,
-        "Lowering error in O::f\n  UnresolvedPath: Q names nothing\nrefused 1\n",
-    ),
-    (
-        r#"{"root":{"items":[{"kind":"opaque","name":"O","methods":[{"name":"f","self_type":{"segments":["O"]},"ret":{"ref":{"lifetime":"c","to":{"named":{"segments":["O"]}}}}}]}]}}"#,
-        1,
-        "Lowering error in O::f\n  LifetimeUnknown: lifetime 'c is not declared\nrefused 1\n",
-    ),
-    // Two items of one name, and a bound that stands at one of its ends.
-    (
-        r#"{"root":{"items":[{"kind":"opaque","name":"P"},{"kind":"opaque","name":"P"}]}}"#,
-        2,
-        NOT_BUILT,
-    ),
-    (
-        r#"{"root":{"items":[{"kind":"opaque","name":"O","methods":[{"name":"f","self_type":{"segments":["O"]},"lifetimes":[{"name":"a","longer":[1]},{"name":"b"}]}]}]}}"#,
-        2,
-        NOT_BUILT,
-    ),
-];
 
 // The words of a command line.
 fn words_of(alloc: Global, texts: &[&str]) -> Result<Vec<String>, AllocError> {
@@ -117,14 +48,15 @@ fn words_are_compared_exactly(rt: HostRuntime) -> Result<(), Fail> {
     Ok(())
 }
 
-// The status, and how many bytes of the page were taken, over pieces of 16 bytes with one call that fails.
+// The status, and how many bytes of the page were taken, over pieces of a length with a call of each kind that fails.
 fn over_failing(
     alloc: Global,
+    piece: usize,
     read: usize,
     write: usize,
 ) -> Result<Option<(u8, usize)>, AllocError> {
-    let mut source = MemSource::new(alloc, PICK.as_bytes(), 16, &[read])?;
-    let mut sink = MemSink::new(alloc, 16, &[write])?;
+    let mut source = MemSource::new(alloc, PICK.as_bytes(), piece.max(1), &[read])?;
+    let mut sink = MemSink::new(alloc, piece.max(1), &[write])?;
     let end = run(alloc, &[], &mut source, &mut sink);
     if !PICK_PAGE.as_bytes().starts_with(sink.bytes()) {
         return Ok(None);
@@ -132,14 +64,54 @@ fn over_failing(
     Ok(Some((end, sink.bytes().len())))
 }
 
+// The input has 392 bytes and its page 77: in pieces of 16, 25 reads and one that finds the end, and 5 writes.
 #[test]
 fn failing_calls_have_their_status(rt: HostRuntime) -> Result<(), Fail> {
     let alloc = rt.alloc();
-    assert_eq!(rt; over_failing(alloc, 99, 99)?, Some((0, 77)));
-    assert_eq!(rt; over_failing(alloc, 0, 99)?, Some((3, 0)));
-    assert_eq!(rt; over_failing(alloc, 7, 99)?, Some((3, 0)));
-    assert_eq!(rt; over_failing(alloc, 99, 0)?, Some((4, 0)));
-    assert_eq!(rt; over_failing(alloc, 99, 1)?, Some((4, 16)));
-    assert_eq!(rt; over_failing(alloc, 99, 4)?, Some((4, 64)));
+    for piece in [1, 2, 3, 16, 64, 1000] {
+        assert_eq!(rt;
+            over_failing(alloc, piece, 999, 999)?,
+            Some((0, 77)),
+            "pieces of {piece}"
+        );
+    }
+    for read in [0, 7, 25] {
+        assert_eq!(rt;
+            over_failing(alloc, 16, read, 999)?,
+            Some((3, 0)),
+            "read {read}"
+        );
+    }
+    assert_eq!(rt; over_failing(alloc, 16, 26, 999)?, Some((0, 77)));
+    for write in 0..5 {
+        assert_eq!(rt;
+            over_failing(alloc, 16, 999, write)?,
+            Some((4, 16 * write)),
+            "write {write}"
+        );
+    }
+    assert_eq!(rt; over_failing(alloc, 16, 999, 5)?, Some((0, 77)));
+    assert_eq!(rt; over_failing(alloc, 16, 0, 0)?, Some((3, 0)));
+    Ok(())
+}
+
+// The status of so many spaces, where it prints the text.
+fn run_on_spaces(alloc: Global, count: usize, text: &str) -> Result<Option<u8>, AllocError> {
+    let spaces = vec![in alloc; b' '; count]?;
+    let mut source = PlainSource::new(&spaces);
+    let mut sink = PlainSink::new(alloc);
+    let end = run(alloc, &[], &mut source, &mut sink);
+    if sink.bytes() == text.as_bytes() {
+        Ok(Some(end))
+    } else {
+        Ok(None)
+    }
+}
+
+#[test]
+fn two_to_the_26_bytes_are_read_and_no_more(rt: HostRuntime) -> Result<(), Fail> {
+    let most = 1 << 26;
+    assert_eq!(rt; run_on_spaces(rt.alloc(), most, NOT_JSON)?, Some(2));
+    assert_eq!(rt; run_on_spaces(rt.alloc(), most + 1, "")?, Some(7));
     Ok(())
 }

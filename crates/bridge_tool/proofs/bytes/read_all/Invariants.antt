@@ -4,7 +4,7 @@ use Rattle.bridge_tool.proofs.bytes.read_all.Given as goal
 
 abbrev pub invariant-loop-len : goal.invariant-loop-len
 invariant-loop-len g l =
-    (l.len ≤ vec_len l.bytes) × (vec_len l.bytes ≤ 2 ^ 26 + 1) × (l.calls ≤ l.len) × (g.S.Source.faults l.source ≡ g.S.Source.faults l.fn.source)
+    (l.len ≤ vec_len l.bytes) × (vec_len l.bytes ≤ 2 ^ 26 + 1) × (g.S.Source.calls l.source ≤ g.S.Source.calls l.fn.source + l.len) × (g.S.Source.faults l.source ≡ g.S.Source.faults l.fn.source)
     × ReadSoFar (g.S.Source.left l.fn.source) (g.S.Source.left l.source) l.len l.bytes.items
 
 abbrev pub decreases-loop-len : goal.decreases-loop-len
