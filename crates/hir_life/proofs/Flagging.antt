@@ -18,13 +18,22 @@ pub record FlagsGiven (e : Environment) (s : ℕ) (w : Walk) (flags : List Bool)
   pub belong : (k : ℕ) → get_or flags k false ≡ true → Outlives (followed e Longer) k s
 
 -- what belongs to the walk outlives its start
-belongs_to :
+pub belongs_to :
     (e : Environment) (s : ℕ) (w : Walk) (k : ℕ) → w.environment ≡ e → w.direction ≡ Longer → w.start ≡ s → Belongs w k
     → Outlives (followed e Longer) k s
 belongs_to e s w k environment direction start belongs =
     subst (λ x. Outlives (followed e Longer) k x) start
     (subst (λ x. Outlives (followed e x) k w.start) direction
     (subst (λ x. Outlives (followed x w.direction) k w.start) environment belongs))
+
+-- what outlives its start belongs to the walk
+pub belonging :
+    (e : Environment) (s : ℕ) (w : Walk) (k : ℕ) → w.environment ≡ e → w.direction ≡ Longer → w.start ≡ s
+    → Outlives (followed e Longer) k s → Belongs w k
+belonging e s w k environment direction start o =
+    subst (λ x. Outlives (followed x w.direction) k w.start) (sym environment)
+    (subst (λ x. Outlives (followed e x) k w.start) (sym direction)
+    (subst (λ x. Outlives (followed e Longer) k x) (sym start) o))
 
 -- what is given has a flag
 pub flag_within :

@@ -52,7 +52,8 @@ flag_was reached l k h =
       | inr ne ↦ inl (sym (get_or-set_other reached l k true false (λ e. ne (sym e))) ∙ h)
     ]
 
-apart_more :
+-- each number still stands once after one more that wasn't there
+pub apart_more :
     (order : List ℕ) (l : ℕ) → (Contains order l → ⊥)
     → ((i j : ℕ) → i < j → j < length order → get_or order i 0 ≡ get_or order j 0 → ⊥) → (i j : ℕ) → i < j
     → j < length (order ++ l ∷ []) → get_or (order ++ l ∷ []) i 0 ≡ get_or (order ++ l ∷ []) j 0 → ⊥

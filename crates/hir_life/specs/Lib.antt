@@ -5,3 +5,5 @@ pub mod Reaching
 pub mod Walk
 pub mod Walking
 pub mod Flags
+pub mod Substitution
+pub mod Listing

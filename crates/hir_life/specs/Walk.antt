@@ -35,6 +35,6 @@ pub record Ends (w after : Walk) : Type 0 where
   pub stays : after ≡ w
 
 -- what one call of `next` does, by what it returns
-abbrev pub Steps : Walk → Option ℕ → Walk → Type 0
-Steps w None after = Ends w after
-Steps w (Some l) after = Gives w l after
+abbrev pub WalksOn : Walk → Option ℕ → Walk → Type 0
+WalksOn w None after = Ends w after
+WalksOn w (Some l) after = Gives w l after

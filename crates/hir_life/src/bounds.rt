@@ -42,6 +42,13 @@ impl LifetimeList {
         })
     }
 
+    /// An equal list.
+    pub fn try_clone(&self, alloc: Global) -> Result<LifetimeList, NoMemory>
+        ensures { IfOk result (λ list. list ≡ self.now) }
+    {
+        LifetimeList::from_slice(alloc, self.as_slice())
+    }
+
     /// Adds a lifetime at the end. Without memory for it the list stays as it was.
     pub fn push(&mut self, lifetime: Lifetime) -> Result<(), NoMemory>
         ensures ok { OnOk result (self.new ≡ self.old ++ lifetime ∷ []) }
@@ -77,4 +84,17 @@ pub struct BoundedLifetime {
     pub longer: LifetimeList,
     /// The lifetimes that this one is declared to outlive.
     pub shorter: LifetimeList,
+}
+
+impl BoundedLifetime {
+    /// An equal lifetime.
+    pub fn try_clone(&self, alloc: Global) -> Result<BoundedLifetime, NoMemory>
+        ensures { IfOk result (λ copy. copy ≡ self.now) }
+    {
+        Ok(BoundedLifetime {
+            ident: self.ident.try_clone(alloc)?,
+            longer: self.longer.try_clone(alloc)?,
+            shorter: self.shorter.try_clone(alloc)?,
+        })
+    }
 }

@@ -1,9 +1,14 @@
 //! The lifetimes that a signature or a definition has, with the bounds between them.
 
-ghost use Rattle.std.specs.Prelude.{◌≡◌, ℕ, ◌<◌, ◌↔◌, IsTrue, IfOk};
+ghost use Rattle.std.specs.Prelude.{◌≡◌, ℕ, ◌<◌, ◌≤◌, ◌↔◌, length, slice_get, IsTrue, IsNone, IfOk};
+ghost use Rattle.std.specs.List.{range_with_len};
+ghost use Rattle.std.specs.Option.{option_copied};
 
+use crate::all_lifetimes::AllLifetimes;
 use crate::bounds::BoundedLifetime;
 use crate::lifetime_index::Lifetime;
+use crate::lifetimes::Lifetimes;
+use crate::maybe_static::MaybeStatic;
 use crate::naming::LifetimeName;
 use crate::walks::{Direction, LifetimeTransitivityIterator};
 use bridge_ast::text::NoMemory;
@@ -35,6 +40,7 @@ impl LifetimeEnv {
     ghost use Rattle.hir_life.specs.Environment.{Environment, IsSound, followed, longer_of, shorter_of};
     ghost use Rattle.hir_life.specs.Outlives.{Outlives};
     ghost use Rattle.hir_life.specs.Naming.{IsNameOf, name_of, printed};
+    ghost use Rattle.hir_life.specs.Substitution.{identity};
     ghost use Rattle.hir_life.specs.Walk.{walk_from};
     ghost use Rattle.hir_life.specs.declared.walks.Direction.TheVariants.{Longer, Shorter};
 
@@ -50,12 +56,49 @@ impl LifetimeEnv {
         }
     }
 
+    /// An equal environment.
+    pub fn try_clone(&self, alloc: Global) -> Result<LifetimeEnv, NoMemory>
+        ensures { IfOk result (λ copy. copy ≡ self.now) }
+    {
+        let mut nodes = Items::new(alloc);
+        for node in self.nodes.as_slice() {
+            nodes.push(node.try_clone(alloc)?)?;
+        }
+        Ok(LifetimeEnv::new(nodes, self.num_lifetimes()))
+    }
+
     /// How many lifetimes there are, named and anonymous ones together.
     pub fn num_lifetimes(&self) -> usize
         ensures value { result ≡ self.now.count }
         ensures sound { IsSound self.now }
     {
         self.count
+    }
+
+    /// All lifetimes in ascending order, named and anonymous ones.
+    pub fn all_lifetimes(&self) -> AllLifetimes
+        ensures { result ≡ range_with_len 0 self.now.count }
+    {
+        AllLifetimes::first(self.num_lifetimes())
+    }
+
+    /// All lifetimes as a list in ascending order: what the definition or signature has for its own lifetimes.
+    pub fn lifetimes(&self, alloc: Global) -> Result<Lifetimes, NoMemory>
+        ensures { IfOk result (λ list. list ≡ identity self.now.count) }
+    {
+        let mut lifetimes = Lifetimes::new(alloc);
+        for number in 0..self.num_lifetimes() {
+            lifetimes.push(MaybeStatic::NonStatic(Lifetime::new(number)))?;
+        }
+        Ok(lifetimes)
+    }
+
+    /// The name and the direct bounds of a named lifetime. None exactly where the lifetime isn't one of the named ones.
+    pub fn get_bounds(&self, lt: Lifetime) -> Option<&BoundedLifetime>
+        ensures entry { option_copied result ≡ slice_get self.now.bounds lt }
+        ensures none { IsNone result ↔ (length self.now.bounds ≤ lt) }
+    {
+        self.nodes.get(lt.index())
     }
 
     /// Whether the lifetime is one of this environment's.

@@ -3,18 +3,29 @@
 //! Named as in the crate `diplomat_core`, whose module `hir::lifetimes` this restates.
 #![tactic(auto)]
 
+mod all_lifetimes;
 mod bounds;
 mod environment;
+mod laws;
 mod lifetime_index;
+mod lifetimes;
+mod longer;
+mod maybe_static;
 mod naming;
 mod outliving;
 mod reaching;
+mod steps;
 mod walks;
 
+pub use all_lifetimes::AllLifetimes;
 pub use bounds::{BoundedLifetime, LifetimeList};
 pub use environment::LifetimeEnv;
+pub use laws::{outlives_is_a_preorder, shorter_is_the_converse_of_longer, substitution_composes};
 pub use lifetime_index::Lifetime;
+pub use lifetimes::{Lifetimes, LifetimesIter};
+pub use maybe_static::MaybeStatic;
 pub use naming::LifetimeName;
+pub use steps::Steps;
 pub use walks::{Direction, LifetimeTransitivityIterator};
 
 #[cfg(test)]

@@ -80,9 +80,9 @@ impl Iterator for LifetimeTransitivityIterator<'_> {
 
     ghost use Rattle.std.specs.Prelude.{◌-◌, length};
     ghost use Rattle.std.specs.Iterator.{at_most};
-    ghost use Rattle.hir_life.specs.Walk.{Steps};
+    ghost use Rattle.hir_life.specs.Walk.{WalksOn};
 
-    ghost next_gives = { Steps };
+    ghost next_gives = { WalksOn };
 
     ghost remaining = { λ walk. at_most (walk.environment.count - length walk.given) };
 
