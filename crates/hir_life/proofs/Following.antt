@@ -1,5 +1,5 @@
 -- A walk on its way, from the state before a step to the state after it.
-use Rattle.std.proofs.Common.{◌≡◌, ℕ, ◌+◌, ◌<◌, inl, inr, Bool, false, List, [], ◌∷◌, ◌++◌, length, get_or, take, refl, sym, ◌∙◌, ap, subst, arith, length-append}
+use Rattle.std.proofs.Common.{◌≡◌, ℕ, ◌+◌, ◌-◌, ◌<◌, ◌≤◌, inl, inr, Bool, false, Option, Some, None, List, [], ◌∷◌, ◌++◌, length, get_or, take, refl, sym, ◌∙◌, ap, subst, arith, length-append}
 use Rattle.std.specs.List.{Contains}
 use Rattle.std.proofs.lemmas.List.{take_more, take-append-le, take_all, get_or-take, length-take-le, get_or_past}
 use Rattle.std.proofs.Math.ListN.{get_or-append}
@@ -10,8 +10,12 @@ use Rattle.hir_life.specs.declared.walks.Direction.{Direction}
 use Rattle.hir_life.specs.declared.walks.Direction.TheVariants.{Longer, Shorter}
 use Rattle.hir_life.specs.Environment.{Environment, IsSound, followed}
 use Rattle.hir_life.specs.Outlives.{Outlives}
-use Rattle.hir_life.specs.Reaching.{Marks, Reaches, Follows}
-use Rattle.hir_life.specs.Walk.{Walk, Gives, Ends}
+use Rattle.hir_life.specs.Listing.{IsOnceEach}
+use Rattle.hir_life.specs.Queue.{Queue, IsQueue, Advances, Moves, Begins, IsFromFirst, walk_of}
+use Rattle.hir_life.specs.Reaching.{Marks, Reaches}
+use Rattle.hir_life.specs.Walk.{Walk, Gives, Ends, WalksOn, walk_from}
+use Rattle.std.specs.Iterator.{MakesProgress, at_most}
+use Rattle.hir_life.proofs.Distinct.{distinct_below}
 use Rattle.hir_life.proofs.Chains.{outlives_itself, outlives_by_longer, closed_has_longer}
 
 -- bounds name lifetimes of the environment
@@ -27,7 +31,8 @@ reached_within order reached k marks h =
       | inr above ↦ absurd (false≢true (sym (get_or_past reached k false above) ∙ marks.marked k h))
     ]
 
-only : (s k : ℕ) → Contains (s ∷ []) k → s ≡ k
+-- the only element of a list of one
+pub only : (s k : ℕ) → Contains (s ∷ []) k → s ≡ k
 only s k h = elim (Contains-push_cases [] s k h) [ inl none ↦ absurd (omega (arith, none.1)) | inr e ↦ e ]
 
 no_front : (order : List ℕ) (k : ℕ) → Contains (take 0 order) k → ⊥
@@ -44,74 +49,108 @@ pub reaches_at :
 reaches_at direct old new bounds l m e is reaches =
     subst (λ x. Reaches old new x) (is ∙ ap direct e) reaches
 
--- where the walk begins, of which nothing was given
-module _ (direct : ℕ → List ℕ) (old new : List ℕ) (s : ℕ) (none : old ≡ []) (reaches : Reaches old new (s ∷ [])) where
-  begin_only : (k : ℕ) → Contains new k → s ≡ k
-  begin_only k h =
-      only s k
-      (reaches.among k (subst (λ x. Contains x k) (reaches.grown ∙ ap (λ x. x ++ reaches.more) none) h))
-
-  begin_some : 0 < length new
-  begin_some =
-      let has : Contains new s = reaches.all s (0, omega arith, refl) in
-      omega (arith, has.1)
-
-  -- it begins with the start
-  pub begin_first : get_or new 0 0 ≡ s
-  begin_first = sym (begin_only (get_or new 0 0) (Contains-get_or new 0 0 begin_some))
-
-  pub follows_begin : Follows direct new 0
-  follows_begin =
-      record {
-        began = begin_some;
-        head_within = omega arith;
-        outlives = λ k h.
-            subst (λ x. Outlives direct k x) (sym (begin_only k h) ∙ sym begin_first) (outlives_itself direct k);
-        closed = λ k l h. absurd (no_front new k h);
-      }
-
-  -- nothing was given yet
-  pub begin_walk :
-      (e : Environment) (d : Direction)
-      → ◌≡◌ {A = Walk} (record { environment = e; direction = d; start = get_or new 0 0; given = take 0 new }) (record { environment = e; direction = d; start = s; given = [] })
-  begin_walk e d = rw begin_first (grind arith)
-
-first_stays : (old more : List ℕ) → 0 < length old → get_or (old ++ more) 0 0 ≡ get_or old 0 0
+-- a list that grew begins as it did
+pub first_stays : (old more : List ℕ) → 0 < length old → get_or (old ++ more) 0 0 ≡ get_or old 0 0
 first_stays old more some = get_or-append old more 0 0 some
+
+front_stays : (old more : List ℕ) (head : ℕ) → head ≤ length old → take head (old ++ more) ≡ take head old
+front_stays old more head within = take-append-le head old more within
 
 front_more : (old more : List ℕ) (head : ℕ) → head < length old → take (head + 1) (old ++ more) ≡ take head old ++ get_or old head 0 ∷ []
 front_more old more head within = take-append-le (head + 1) old more (omega arith) ∙ take_more old head 0 within
 
--- one lifetime more is given, once its bounds were followed
-pub follows_step :
-    (direct : ℕ → List ℕ) (old new : List ℕ) (head : ℕ) → head < length old → Follows direct old head
-    → Reaches old new (direct (get_or old head 0)) → Follows direct new (head + 1)
-follows_step direct old new head within follows reaches =
-    let here : ℕ = get_or old head 0 in
-    let first : get_or old 0 0 ≡ get_or new 0 0 =
-    sym (first_stays old reaches.more follows.began) ∙ ap (λ x. get_or x 0 0) (sym reaches.grown) in
-    let longer : length new ≡ length old + length reaches.more =
-    ap length reaches.grown ∙ length-append old reaches.more in
+-- a list of lifetimes that has, with each of its first ones, the bounds of this one
+abbrev pub Closed : (ℕ → List ℕ) → List ℕ → ℕ → Type 0
+Closed direct reached given = (k l : ℕ) → Contains (take given reached) k → Contains (direct k) l → Contains reached l
+
+-- nothing was given yet
+pub closed_none : (direct : ℕ → List ℕ) (reached : List ℕ) → Closed direct reached 0
+closed_none direct reached = λ k l h d. absurd (no_front reached k h)
+
+-- a further start is reached
+pub closed_start :
+    (direct : ℕ → List ℕ) (old new lifetimes : List ℕ) (given : ℕ) → given ≤ length old → Closed direct old given
+    → Reaches old new lifetimes → Closed direct new given
+closed_start direct old new lifetimes given within closed reaches = λ k l h d.
+    subst (λ x. Contains x l) (sym reaches.grown)
+    (Contains-append_left old reaches.more l
+    (closed k l (subst (λ x. Contains x k) (ap (take given) reaches.grown ∙ front_stays old reaches.more given within) h) d))
+
+-- one lifetime more is given, and its bounds are reached
+pub closed_step :
+    (direct : ℕ → List ℕ) (old new : List ℕ) (given : ℕ) → given < length old → Closed direct old given
+    → Reaches old new (direct (get_or old given 0)) → Closed direct new (given + 1)
+closed_step direct old new given within closed reaches = λ k l h d.
+    let here : ℕ = get_or old given 0 in
+    elim (Contains-push_cases (take given old) here k
+    (subst (λ x. Contains x k) (ap (take (given + 1)) reaches.grown ∙ front_more old reaches.more given within) h)) [
+      | inl was ↦ subst (λ x. Contains x l) (sym reaches.grown) (Contains-append_left old reaches.more l (closed k l was d))
+      | inr e ↦ reaches.all l (subst (λ x. Contains (direct x) l) (sym e) d)
+    ]
+
+-- the list isn't shorter than it was
+pub length_more : (old new lifetimes : List ℕ) → Reaches old new lifetimes → length old ≤ length new
+length_more old new lifetimes reaches = omega (arith, ap length reaches.grown, length-append old reaches.more)
+
+-- the first start: all that is reached is the start
+module _ (q after : Queue) (s : ℕ) (none : q.reached ≡ []) (begins : Begins q s after) where
+  begin_only : (k : ℕ) → Contains after.reached k → s ≡ k
+  begin_only k h =
+      only s k
+      (begins.reaches.among k (subst (λ x. Contains x k) (begins.reaches.grown ∙ ap (λ x. x ++ begins.reaches.more) none) h))
+
+  begin_some : 0 < length after.reached
+  begin_some =
+      let has : Contains after.reached s = begins.reaches.all s (0, omega arith, refl) in
+      omega (arith, has.1)
+
+  begin_first : get_or after.reached 0 0 ≡ s
+  begin_first = sym (begin_only (get_or after.reached 0 0) (Contains-get_or after.reached 0 0 begin_some))
+
+  pub from_first_begin : IsFromFirst after
+  from_first_begin =
+      record {
+        some = begin_some;
+        belong = λ k h.
+            subst (λ x. Outlives (followed after.environment after.direction) k x) (sym (begin_only k h) ∙ sym begin_first)
+            (outlives_itself (followed after.environment after.direction) k);
+      }
+
+  -- nothing was given yet
+  pub begin_walk : q.given ≡ 0 → walk_of after ≡ walk_from q.environment q.direction s
+  begin_walk zero_given =
+      let given : after.given ≡ 0 = ap (λ x. x.given) begins.follows ∙ zero_given in
+      let environment : after.environment ≡ q.environment = ap (λ x. x.environment) begins.follows in
+      let direction : after.direction ≡ q.direction = ap (λ x. x.direction) begins.follows in
+      rw (begin_first, given, environment, direction) (grind arith)
+
+-- what was reached along the bounds of what outlives the first outlives the first
+pub from_first_step : (q after : Queue) (l : ℕ) → IsFromFirst q → Advances q l after → IsFromFirst after
+from_first_step q after l from step =
+    let direct : (ℕ → List ℕ) = followed q.environment q.direction in
+    let has : Contains q.reached l =
+    subst (λ x. Contains q.reached x) (sym step.here) (Contains-get_or q.reached q.given 0 step.waiting) in
+    let first : get_or q.reached 0 0 ≡ get_or after.reached 0 0 =
+    sym (first_stays q.reached step.reaches.more from.some) ∙ ap (λ x. get_or x 0 0) (sym step.reaches.grown) in
+    let next : IsFromFirst (record q { reached = after.reached; given = q.given + 1 }) =
     record {
-      began = omega (arith, longer, follows.began);
-      head_within = omega (arith, longer);
-      outlives = λ k h.
-          elim (Contains-append_cases old reaches.more k (subst (λ x. Contains x k) reaches.grown h)) [
-            | inl was ↦ subst (λ x. Outlives direct k x) first (follows.outlives k was)
+      some = omega (arith, from.some, length_more q.reached after.reached (direct l) step.reaches);
+      belong = λ k h.
+          elim (Contains-append_cases q.reached step.reaches.more k (subst (λ x. Contains x k) step.reaches.grown h)) [
+            | inl was ↦ subst (λ x. Outlives direct k x) first (from.belong k was)
             | inr now ↦
                 subst (λ x. Outlives direct k x) first
-                (outlives_by_longer direct k here (get_or old 0 0) (reaches.among k now)
-                (follows.outlives here (Contains-get_or old head 0 within)))
+                (outlives_by_longer direct k l (get_or q.reached 0 0) (step.reaches.among k now) (from.belong l has))
           ];
-      closed = λ k l h d.
-          elim (Contains-push_cases (take head old) here k
-          (subst (λ x. Contains x k) (ap (take (head + 1)) reaches.grown ∙ front_more old reaches.more head within) h)) [
-            | inl was ↦ subst (λ x. Contains x l) (sym reaches.grown) (Contains-append_left old reaches.more l (follows.closed k l was d))
-            | inr e ↦ reaches.all l (subst (λ x. Contains (direct x) l) (sym e) d)
-          ];
-    }
+    } in
+    subst (λ x. IsFromFirst x) (sym step.follows) next
 
-fresh_next : (order : List ℕ) (head : ℕ) → ((i j : ℕ) → i < j → j < length order → get_or order i 0 ≡ get_or order j 0 → ⊥) → head < length order → Contains (take head order) (get_or order head 0) → ⊥
+-- the same for whatever a step answers
+pub from_first_moves : (q after : Queue) (answer : Option ℕ) → IsFromFirst q → Moves q answer after → IsFromFirst after
+from_first_moves q after None from moves = subst (λ x. IsFromFirst x) (sym moves.1) from
+from_first_moves q after (Some l) from moves = from_first_step q after l from moves
+
+fresh_next : (order : List ℕ) (head : ℕ) → IsOnceEach order → head < length order → Contains (take head order) (get_or order head 0) → ⊥
 fresh_next order head apart within h =
     let before : h.0 < head = omega (arith, h.1, length-take-le head order (omega arith)) in
     let item : ℕ = get_or order head 0 in
@@ -126,36 +165,72 @@ at_start order head within none =
     ap (λ x. get_or order x 0) zero
 
 -- what a step gives
-pub gives_next :
-    (e : Environment) (d : Direction) (old new : List ℕ) (reached : List Bool) (head : ℕ) → length reached ≡ e.count
-    → Marks old reached → Follows (followed e d) old head → head < length old
-    → Reaches old new (followed e d (get_or old head 0))
-    → Gives (record { environment = e; direction = d; start = get_or old 0 0; given = take head old }) (get_or old head 0) (record { environment = e; direction = d; start = get_or new 0 0; given = take (head + 1) new })
-gives_next e d old new reached head flags marks follows within reaches =
-    let here : Contains old (get_or old head 0) = Contains-get_or old head 0 within in
+gives_next : (q after : Queue) (l : ℕ) → IsQueue q → IsFromFirst q → Advances q l after → Gives (walk_of q) l (walk_of after)
+gives_next q after l queue from step =
+    let has : Contains q.reached l =
+    subst (λ x. Contains q.reached x) (sym step.here) (Contains-get_or q.reached q.given 0 step.waiting) in
+    let first : get_or after.reached 0 0 ≡ get_or q.reached 0 0 =
+    ap (λ x. get_or x 0 0) step.reaches.grown ∙ first_stays q.reached step.reaches.more from.some in
+    let front : take (q.given + 1) after.reached ≡ take q.given q.reached ++ l ∷ [] =
+    ap (take (q.given + 1)) step.reaches.grown ∙ front_more q.reached step.reaches.more q.given step.waiting
+    ∙ ap (λ x. take q.given q.reached ++ x ∷ []) (sym step.here) in
     record {
-      belongs = follows.outlives (get_or old head 0) here;
-      within = subst (λ n. get_or old head 0 < n) flags (reached_within old reached (get_or old head 0) marks here);
-      fresh = fresh_next old head marks.apart within;
-      first = at_start old head within;
-      follows =
-          let first : get_or new 0 0 ≡ get_or old 0 0 =
-          ap (λ x. get_or x 0 0) reaches.grown ∙ first_stays old reaches.more follows.began in
-          let front : take (head + 1) new ≡ take head old ++ get_or old head 0 ∷ [] =
-          ap (take (head + 1)) reaches.grown ∙ front_more old reaches.more head within in
-          rw (first, front) refl;
+      belongs = from.belong l has;
+      within = queue.within l has;
+      fresh = λ h. fresh_next q.reached q.given queue.once step.waiting (subst (λ x. Contains (take q.given q.reached) x) step.here h);
+      first = λ none. step.here ∙ at_start q.reached q.given step.waiting none;
+      follows = ap walk_of step.follows ∙ rw (first, front) refl;
     }
 
 -- what is left when all that was reached is given
-pub ends_here :
-    (e : Environment) (d : Direction) (order : List ℕ) (head : ℕ) → Follows (followed e d) order head → head ≡ length order
-    → Ends (record { environment = e; direction = d; start = get_or order 0 0; given = take head order }) (record { environment = e; direction = d; start = get_or order 0 0; given = take head order })
-ends_here e d order head follows over =
-    let whole : take head order ≡ order = take_all head order (omega arith) in
+ends_here : (q : Queue) → IsQueue q → IsFromFirst q → q.given ≡ length q.reached → Ends (walk_of q) (walk_of q)
+ends_here q queue from over =
+    let whole : take q.given q.reached ≡ q.reached = take_all q.given q.reached (omega arith) in
     record {
       complete = λ l o.
           subst (λ x. Contains x l) (sym whole)
-          (closed_has_longer (followed e d) (Contains order) (get_or order 0 0) (Contains-get_or order 0 0 follows.began)
-          (λ k m h b. follows.closed k m (subst (λ x. Contains x k) (sym whole) h) b) l o);
+          (closed_has_longer (followed q.environment q.direction) (Contains q.reached) (get_or q.reached 0 0)
+          (Contains-get_or q.reached 0 0 from.some)
+          (λ k m h b. queue.closed k m (subst (λ x. Contains x k) (sym whole) h) b) l o);
       stays = refl;
+    }
+
+-- a step is one of the walk
+pub walks_on :
+    (q after : Queue) (answer : Option ℕ) → IsQueue q → IsFromFirst q → Moves q answer after
+    → WalksOn (walk_of q) answer (walk_of after)
+walks_on q after None queue from moves =
+    subst (λ x. Ends (walk_of q) (walk_of x)) (sym moves.1) (ends_here q queue from moves.0)
+walks_on q after (Some l) queue from moves = gives_next q after l queue from moves
+
+-- what holds between two steps, by the flags
+pub is_queue :
+    (q : Queue) (flags : List Bool) → Marks q.reached flags → length flags ≡ q.environment.count
+    → q.given ≤ length q.reached → Closed (followed q.environment q.direction) q.reached q.given → IsQueue q
+is_queue q flags marks each given closed =
+    record {
+      given_reached = given;
+      within = λ k h. subst (λ n. k < n) each (reached_within q.reached flags k marks h);
+      once = marks.apart;
+      closed = closed;
+    }
+
+-- each step brings the walk nearer to its end
+pub walk_goes :
+    (can : Walk → Type 0) → ((w : Walk) → can w) → (q after : Queue) (answer : Option ℕ) → IsQueue q
+    → Moves q answer after
+    → MakesProgress can (λ w. at_most (w.environment.count - length w.given)) (walk_of q) answer (walk_of after)
+walk_goes can always q after None queue moves = record { on = λ _. tt; keeps = tt; rests = λ _. tt }
+walk_goes can always q after (Some l) queue moves =
+    let room = distinct_below q.reached q.environment.count queue.once queue.within in
+    let same : after.environment.count ≡ q.environment.count = ap (λ x. x.environment.count) moves.follows in
+    let more : after.given ≡ q.given + 1 = ap (λ x. x.given) moves.follows in
+    let longer = length_more q.reached after.reached (followed q.environment q.direction l) moves.reaches in
+    let before : length (take q.given q.reached) ≡ q.given = length-take-le q.given q.reached (omega (arith, moves.waiting)) in
+    let now : length (take after.given after.reached) ≡ after.given =
+    length-take-le after.given after.reached (omega (arith, more, longer, moves.waiting)) in
+    record {
+      on = λ _. (always (walk_of after), tt, omega (arith, room, same, more, before, now, moves.waiting));
+      keeps = always (walk_of after);
+      rests = λ _. tt;
     }

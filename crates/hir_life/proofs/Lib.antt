@@ -6,3 +6,4 @@ pub mod Listing
 pub mod Substituting
 pub mod Distinct
 pub mod Answering
+pub mod Visits

@@ -1,9 +1,11 @@
 pub mod Outlives
 pub mod Environment
 pub mod Naming
-pub mod Reaching
-pub mod Walk
-pub mod Walking
-pub mod Flags
 pub mod Substitution
 pub mod Listing
+pub mod Reaching
+pub mod Walk
+pub mod Queue
+pub mod Walking
+pub mod Flags
+pub mod Visiting

@@ -1,8 +1,7 @@
 -- The lifetimes that a walk has reached: those that it gave, and those that are still to be given. The example throughout is a
 -- walk to the longer from a in `fn f<'a, 'b: 'a, 'c: 'b, 'd>`, which has given a: it has reached a and b.
-use Rattle.std.specs.Prelude.{◌≡◌, ℕ, List, Bool, false, true, ◌<◌, ◌≤◌, ◌++◌, length, take, slice_index, slice_index_or, count_by}
+use Rattle.std.specs.Prelude.{◌≡◌, ℕ, List, Bool, false, true, ◌<◌, ◌++◌, length, slice_index, slice_index_or, count_by}
 use Rattle.std.specs.List.{Contains}
-use Rattle.hir_life.specs.Outlives.{Outlives}
 
 -- the flags that are set are those of the lifetimes in the list, in which each stands once: for the list a, b the flags are
 -- true, true, false, false
@@ -18,11 +17,3 @@ pub record Reaches (old new lifetimes : List ℕ) : Type 0 where
   pub grown : new ≡ old ++ more
   pub among : (k : ℕ) → Contains more k → Contains lifetimes k
   pub all : (k : ℕ) → Contains lifetimes k → Contains new k
-
--- what was reached outlives the first, and the bounds of what was given were followed: of the list a, b the first one is
--- given, and its bound b stands in the list
-pub record Follows (direct : ℕ → List ℕ) (order : List ℕ) (head : ℕ) : Type 0 where
-  pub began : 0 < length order
-  pub head_within : head ≤ length order
-  pub outlives : (k : ℕ) → Contains order k → Outlives direct k (slice_index order 0)
-  pub closed : (k l : ℕ) → Contains (take head order) k → Contains (direct k) l → Contains order l

@@ -1,23 +1,26 @@
--- A walk on its way: the lifetimes that it reached, a flag for each of them, and how many it has given.
-use Rattle.std.specs.Prelude.{◌≡◌, ◌≤◌, length, take, slice_index, vec_capacity}
+-- The fields of a walk on its way: the lifetimes that it reached, a flag for each of them, and how many it has given.
+use Rattle.std.specs.Prelude.{◌≡◌, ℕ, ◌≤◌, length, take, vec_capacity}
+use Rattle.std.specs.List.{Contains}
 use Rattle.hir_life.specs.Environment.{followed}
-use Rattle.hir_life.specs.Reaching.{Marks, Follows}
-use Rattle.hir_life.specs.Walk.{Walk}
-use Rattle.hir_life.specs.declared.walks.LifetimeTransitivityIterator.TheInside.{Inside}
+use Rattle.hir_life.specs.Reaching.{Marks}
+use Rattle.hir_life.specs.Queue.{Queue}
+use Rattle.hir_life.specs.declared.walker.Walker.TheInside.{Inside}
 
--- the walk that the fields stand for: it began with the first that was reached, and has given as many as `head` says
-abbrev pub walk_of : Inside → Walk
-walk_of a =
+-- the walk that the fields stand for
+abbrev pub queue_of : Inside → Queue
+queue_of a =
     record {
       environment = a.env.now;
       direction = a.direction;
-      start = slice_index a.order.items 0;
-      given = take a.head a.order.items;
+      reached = a.order.items;
+      given = a.head;
     }
 
--- what is true of the fields between two calls: each lifetime has its flag, and there is room for all of them
+-- what is true of the fields between two calls: each lifetime has its flag, there is room for all of them, and the bounds of
+-- those that were given were followed
 pub record IsWalking (a : Inside) : Type 0 where
   pub room : a.env.now.count ≤ vec_capacity a.order
   pub flags : length a.reached.items ≡ a.env.now.count
   pub marks : Marks a.order.items a.reached.items
-  pub follows : Follows (followed a.env.now a.direction) a.order.items a.head
+  pub given_reached : a.head ≤ length a.order.items
+  pub closed : (k l : ℕ) → Contains (take a.head a.order.items) k → Contains (followed a.env.now a.direction k) l → Contains a.order.items l

@@ -108,6 +108,14 @@ impl LifetimeEnv {
         lt.index() < self.num_lifetimes()
     }
 
+    /// Whether the lifetime is a named one.
+    pub(crate) fn is_named(&self, lt: Lifetime) -> bool
+        ensures named { IsTrue result ↔ (lt < length self.now.bounds) }
+        ensures sound { IsSound self.now }
+    {
+        lt.index() < self.nodes.len()
+    }
+
     /// What the lifetime is called.
     pub fn fmt_lifetime(&self, lt: Lifetime) -> LifetimeName<'_>
         requires { lt < self.now.count }

@@ -15,6 +15,8 @@ mod naming;
 mod outliving;
 mod reaching;
 mod steps;
+mod visiting;
+mod walker;
 mod walks;
 
 pub use all_lifetimes::AllLifetimes;
@@ -26,6 +28,7 @@ pub use lifetimes::{Lifetimes, LifetimesIter};
 pub use maybe_static::MaybeStatic;
 pub use naming::LifetimeName;
 pub use steps::Steps;
+pub use visiting::SubtypeLifetimeVisitor;
 pub use walks::{Direction, LifetimeTransitivityIterator};
 
 #[cfg(test)]

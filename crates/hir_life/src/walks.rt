@@ -4,7 +4,7 @@ ghost use Rattle.std.specs.Prelude.{◌≡◌, ◌<◌, IfOk};
 
 use crate::environment::LifetimeEnv;
 use crate::lifetime_index::Lifetime;
-use crate::reaching::{reach, reach_all};
+use crate::walker::Walker;
 use bridge_ast::text::NoMemory;
 use std::alloc::Global;
 use std::marker::Model;
@@ -24,14 +24,7 @@ pub enum Direction {
 /// start, so that `next` takes no memory.
 #[derive(Drop)]
 pub struct LifetimeTransitivityIterator<'env> {
-    env: &'env LifetimeEnv,
-    direction: Direction,
-    // The lifetimes that were reached, in the order in which they are given.
-    order: Vec<usize>,
-    // Of each lifetime, whether it was reached.
-    reached: Vec<bool>,
-    // How many of `order` were given.
-    head: usize,
+    walker: Walker<'env>,
 }
 
 impl<'env> Model for LifetimeTransitivityIterator<'env> {
@@ -39,11 +32,11 @@ impl<'env> Model for LifetimeTransitivityIterator<'env> {
 
     ghost Value = { Walk };
 
-    ghost use Rattle.hir_life.specs.Walking.{walk_of, IsWalking};
+    ghost use Rattle.hir_life.specs.Queue.{walk_of, IsFromFirst};
 
-    ghost view = { walk_of };
+    ghost view = { λ it. walk_of it.walker };
 
-    ghost invariant = { IsWalking };
+    ghost invariant = { λ it. IsFromFirst it.walker };
 }
 
 impl<'env> LifetimeTransitivityIterator<'env> {
@@ -61,17 +54,9 @@ impl<'env> LifetimeTransitivityIterator<'env> {
         ensures walk { IfOk result (λ walk. walk ≡ walk_from env.now direction start) }
         ensures sound { IsSound env.now }
     {
-        let count = env.num_lifetimes();
-        let mut order = Vec::with_capacity(alloc, count)?;
-        let mut reached = vec![in alloc; false; count]?;
-        reach(&mut order, &mut reached, start.index());
-        Ok(LifetimeTransitivityIterator {
-            env,
-            direction,
-            order,
-            reached,
-            head: 0,
-        })
+        let mut walker = Walker::new(alloc, env, direction)?;
+        walker.begin(start);
+        Ok(LifetimeTransitivityIterator { walker })
     }
 }
 
@@ -87,13 +72,6 @@ impl Iterator for LifetimeTransitivityIterator<'_> {
     ghost remaining = { λ walk. at_most (walk.environment.count - length walk.given) };
 
     fn next(&mut self) -> Option<Lifetime> {
-        if self.head == self.order.len() {
-            return None;
-        }
-        let lifetime = self.order[self.head];
-        let bounds = self.env.direct(self.direction, lifetime);
-        reach_all(&mut self.order, &mut self.reached, bounds);
-        self.head += 1;
-        Some(Lifetime::new(lifetime))
+        self.walker.step()
     }
 }
