@@ -88,8 +88,8 @@ pub collected_all :
 collected_all e s w after ls is ends =
     let whole : (l : ℕ) → Outlives (longer_of e) l s → Contains ls l =
     λ l o.
-        subst (λ x. Contains x l) is.given
-        (ends.complete l (belonging e s w l is.environment is.direction is.start o)) in
+    subst (λ x. Contains x l) is.given
+    (ends.complete l (belonging e s w l is.environment is.direction is.start o)) in
     let has : Contains ls s = whole s (record { chain = []; linked = refl }) in
     let some : 0 < length ls = omega (arith, has.1) in
     record {
@@ -120,6 +120,6 @@ longer_count e s ls is =
     let fits =
     distinct_fits ls (s ∷ flat_map (λ b. b.longer) e.bounds) is.once
     (λ k h.
-        let o : Outlives (longer_of e) k s = (is.outlive k).0 h in
-        start_or_bound e k s o.chain o.linked) in
+    let o : Outlives (longer_of e) k s = (is.outlive k).0 h in
+    start_or_bound e k s o.chain o.linked) in
     omega (arith, fits, length-flat_map (λ (b : BoundedLifetime). b.longer) e.bounds)

@@ -38,8 +38,8 @@ distinct_fits (x ∷ xs) ys once among =
     let rest : length xs ≤ length (take at.0 ys ++ drop (suc at.0) ys) =
     distinct_fits xs (take at.0 ys ++ drop (suc at.0) ys) (λ i j before within same. once (suc i) (suc j) (omega (arith, before)) (omega (arith, within)) same)
     (λ k h. contains_around ys at.0 k at.1
-        (λ e. once 0 (suc h.0) (omega arith) (omega (arith, h.1)) (sym here ∙ e ∙ sym h.2 ∙ get_or_default_zero xs h.0 k h.1))
-        (among k (suc h.0, omega (arith, h.1), h.2))) in
+    (λ e. once 0 (suc h.0) (omega arith) (omega (arith, h.1)) (sym here ∙ e ∙ sym h.2 ∙ get_or_default_zero xs h.0 k h.1))
+    (among k (suc h.0, omega (arith, h.1), h.2))) in
     omega (
       arith,
       rest,

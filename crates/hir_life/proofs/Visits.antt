@@ -190,11 +190,11 @@ module _ {F : Type 0} (call : F → ℕ → F → Type 0) (v : Visitor F) (s : �
       let once : IsOnceEach (v.visited ++ on.more) = subst (λ x. IsOnceEach x) on.grown queue.once in
       let reached : (l : ℕ) → Outlives (longer_of v.environment) l s → Contains q.reached l =
       λ l o.
-          closed_has_longer (longer_of v.environment) (Contains q.reached) s on.start
-          (λ k m h d.
-              queue.closed k m (subst (λ x. Contains x k) (sym whole) h)
-              (subst (λ x. Contains x m) (sym (ap (λ d. followed q.environment d k) on.longer ∙ ap (λ e. longer_of e k) on.environment)) d))
-          l o in
+      closed_has_longer (longer_of v.environment) (Contains q.reached) s on.start
+      (λ k m h d.
+      queue.closed k m (subst (λ x. Contains x k) (sym whole) h)
+      (subst (λ x. Contains x m) (sym (ap (λ d. followed q.environment d k) on.longer ∙ ap (λ e. longer_of e k) on.environment)) d))
+      l o in
       record {
         now = on.more;
         due = λ l. (

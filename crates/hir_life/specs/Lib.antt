@@ -9,3 +9,4 @@ pub mod Queue
 pub mod Walking
 pub mod Flags
 pub mod Visiting
+pub mod Comparing

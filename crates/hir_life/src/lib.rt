@@ -22,7 +22,10 @@ mod walks;
 pub use all_lifetimes::AllLifetimes;
 pub use bounds::{BoundedLifetime, LifetimeList};
 pub use environment::LifetimeEnv;
-pub use laws::{outlives_is_a_preorder, shorter_is_the_converse_of_longer, substitution_composes};
+pub use laws::{
+    order_equality_and_hash_agree, outlives_is_a_preorder, shorter_is_the_converse_of_longer,
+    substitution_composes,
+};
 pub use lifetime_index::Lifetime;
 pub use lifetimes::{Lifetimes, LifetimesIter};
 pub use maybe_static::MaybeStatic;

@@ -39,7 +39,10 @@ impl Lifetimes {
     }
 
     /// A copy of these lifetimes.
-    pub fn from_slice(alloc: Global, lifetimes: &[MaybeStatic<Lifetime>]) -> Result<Lifetimes, NoMemory>
+    pub fn from_slice(
+        alloc: Global,
+        lifetimes: &[MaybeStatic<Lifetime>],
+    ) -> Result<Lifetimes, NoMemory>
         ensures { IfOk result (λ list. list ≡ lifetimes.now) }
     {
         Ok(Lifetimes {

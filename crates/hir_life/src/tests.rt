@@ -1,16 +1,23 @@
-//! Walks against worked examples and against the plain search.
+//! Worked examples.
 
+mod agree;
+mod counted;
 mod plain;
 mod sound;
 
 use crate::bounds::{BoundedLifetime, LifetimeList};
 use crate::environment::LifetimeEnv;
 use crate::lifetime_index::Lifetime;
+use crate::lifetimes::Lifetimes;
+use crate::maybe_static::MaybeStatic;
+use crate::tests::counted::counted;
 use crate::walks::LifetimeTransitivityIterator;
 use bridge_ast::idents::IdentBuf;
 use sqlite_items::Items;
 use std::alloc::Global;
+use std::marker::Brand;
 use std::process::Abort;
+use std::sync::ledger::Blank;
 use std::test::Fail;
 
 /// The lifetimes of one direction: of each bound that has `at` at the first end, the other end.
@@ -61,7 +68,7 @@ fn numbers(alloc: Global, walk: LifetimeTransitivityIterator<'_>) -> Result<Vec<
     Ok(given)
 }
 
-/// Walks from `start` in both directions, and asks the plain search about each lifetime.
+/// Walks from `start` in both directions, which give these lists.
 fn walk_from(
     rt: &impl Abort,
     alloc: Global,
@@ -76,16 +83,6 @@ fn walk_from(
     assert_eq!(rt; numbers(alloc, walk)?.as_slice(), longer);
     let walk = env.all_shorter_lifetimes(alloc, start)?;
     assert_eq!(rt; numbers(alloc, walk)?.as_slice(), shorter);
-    let flags = env.outliving_flags(alloc, start)?;
-    assert_eq!(rt; flags.len(), env.num_lifetimes());
-    for (number, flag) in flags.iter().enumerate() {
-        let lifetime = Lifetime::new(number);
-        assert!(rt; env.contains(lifetime));
-        assert_eq!(rt;
-            *flag,
-            plain::outlives_plainly(alloc, env, lifetime, start)?
-        );
-    }
     Ok(())
 }
 
@@ -109,6 +106,69 @@ fn walks(rt: HostRuntime) -> Result<(), Fail> {
         let env = environment(alloc, &names, bounds, 6)?;
         walk_from(&rt, alloc, &env, start, longer, shorter)?;
     }
+    Ok(())
+}
+
+/// `longer_of` takes one step for each lifetime of its answer.
+#[test]
+fn steps(rt: HostRuntime) -> Result<(), Fail> {
+    let alloc = rt.alloc();
+    let env = environment(alloc, &["a", "b", "c"], &[(1, 0), (2, 1)], 3)?;
+    assert!(rt; env.contains(Lifetime::new(0)));
+    let (longer, steps) = counted::<Brand>(alloc, &env, Lifetime::new(0), Blank::new(1))?;
+    assert_eq!(rt; steps, 3);
+    assert_eq!(rt;
+        longer.as_slice(),
+        [Lifetime::new(0), Lifetime::new(1), Lifetime::new(2)].as_slice()
+    );
+    Ok(())
+}
+
+/// The lifetimes 1, `'static` and 0 of a definition whose arguments are `'static` and 4.
+#[test]
+fn substitution(rt: HostRuntime) -> Result<(), Fail> {
+    let alloc = rt.alloc();
+    let number = |n: usize| MaybeStatic::NonStatic(Lifetime::new(n));
+    let arguments = Lifetimes::from_slice(alloc, &[MaybeStatic::Static, number(4)])?;
+    let inner = Lifetimes::from_slice(alloc, &[number(1), MaybeStatic::Static, number(0)])?;
+    let outer = inner.as_method_lifetimes(alloc, &arguments)?;
+    assert_eq!(rt;
+        outer.as_slice(),
+        [number(4), MaybeStatic::Static, MaybeStatic::Static].as_slice()
+    );
+    assert_eq!(rt; Lifetime::new(1).as_method_lifetime(&arguments), number(4));
+    let mut given = Lifetimes::new(alloc);
+    for lifetime in outer.try_clone(alloc)?.lifetimes() {
+        given.push(lifetime)?;
+    }
+    assert_eq!(rt; given.as_slice(), outer.as_slice());
+    assert_eq!(rt; outer.len(), 3);
+    assert!(rt; MaybeStatic::Static < number(0));
+    assert!(rt; number(0) < number(1));
+    Ok(())
+}
+
+/// The lifetimes and bounds of `<'a, 'b: 'a>` with one anonymous lifetime, and of an equal environment.
+#[test]
+fn lists(rt: HostRuntime) -> Result<(), Fail> {
+    let alloc = rt.alloc();
+    let made = environment(alloc, &["a", "b"], &[(1, 0)], 3)?;
+    let env = made.try_clone(alloc)?;
+    let mut all = Vec::new(alloc);
+    for lifetime in env.all_lifetimes() {
+        all.push(MaybeStatic::NonStatic(lifetime))?;
+    }
+    assert_eq!(rt; env.lifetimes(alloc)?.as_slice(), all.as_slice());
+    assert_eq!(rt; all.len(), 3);
+    let longer = env
+        .get_bounds(Lifetime::new(0))
+        .map(|bounds| bounds.longer.as_slice());
+    assert_eq!(rt; longer, Some([Lifetime::new(1)].as_slice()));
+    let shorter = env
+        .get_bounds(Lifetime::new(1))
+        .map(|bounds| bounds.shorter.as_slice());
+    assert_eq!(rt; shorter, Some([Lifetime::new(0)].as_slice()));
+    assert!(rt; env.get_bounds(Lifetime::new(2)).is_none());
     Ok(())
 }
 

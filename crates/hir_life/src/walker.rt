@@ -42,7 +42,11 @@ impl<'env> Walker<'env> {
     ghost use Rattle.hir_life.specs.Queue.{Begins, IsQueue, Moves};
 
     /// A walk that has no start yet. It takes all the memory that it needs.
-    pub(crate) fn new(alloc: Global, env: &'env LifetimeEnv, direction: Direction) -> Result<Self, NoMemory>
+    pub(crate) fn new(
+        alloc: Global,
+        env: &'env LifetimeEnv,
+        direction: Direction,
+    ) -> Result<Self, NoMemory>
         ensures walk { IfOk result (λ walk. walk ≡ record { environment = env.now; direction = direction; reached = []; given = 0 }) }
         ensures sound { IsSound env.now }
     {
