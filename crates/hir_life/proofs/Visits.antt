@@ -5,7 +5,7 @@ use Rattle.std.proofs.Math.ListN.{get_or-append}
 use Rattle.std.proofs.Math.Seq.{get_or-append_right}
 use Rattle.std.proofs.lemmas.Fn.{FoldsTo-push}
 use Rattle.std.proofs.lemmas.List.{take_all, take_more, take-append-le, get_or_past, length-map, length-take-le, get_or-append-add}
-use Rattle.std.proofs.lemmas.List.Elements.{Contains-get_or, Contains-append_left, Contains-append_right, Contains-append_cases}
+use Rattle.std.proofs.lemmas.List.Elements.{Contains-append_left, Contains-append_cases}
 use Rattle.std.proofs.lemmas.Grind.{common_steps, get_or_default_zero}
 use Rattle.hir_life.specs.declared.bounds.BoundedLifetime.{BoundedLifetime}
 use Rattle.hir_life.specs.declared.walks.Direction.TheVariants.{Longer}
@@ -13,7 +13,7 @@ use Rattle.hir_life.specs.Environment.{Environment, IsSound, followed, longer_of
 use Rattle.hir_life.specs.Listing.{IsOnceEach}
 use Rattle.hir_life.specs.Outlives.{Linked, Outlives}
 use Rattle.hir_life.specs.Queue.{Queue, IsQueue, Advances, Begins}
-use Rattle.hir_life.specs.Visiting.{Visitor, IsDue, Visits, HasVisited}
+use Rattle.hir_life.specs.Visiting.{Visitor, Visits, HasVisited}
 use Rattle.hir_life.proofs.Chains.{outlives_itself, outlives_by_longer, closed_has_longer}
 use Rattle.hir_life.proofs.Distinct.{distinct_below}
 use Rattle.hir_life.proofs.Following.{only}

@@ -1,4 +1,4 @@
-use Rattle.std.proofs.Common.{◌∙◌, sym, arith, rules}
+use Rattle.std.proofs.Common.{arith, rules}
 use Rattle.hir_life.proofs.Substituting.{range_front}
 use Rattle.hir_life.proofs.all_lifetimes.AllLifetimesIterator.next.Goals as goal
 

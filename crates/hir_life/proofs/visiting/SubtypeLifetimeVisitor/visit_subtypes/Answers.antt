@@ -1,4 +1,4 @@
-use Rattle.std.proofs.Common.{◌≡◌, ◌<◌, ◌≤◌, length, false, subst, sym, ◌∙◌, arith, rules}
+use Rattle.std.proofs.Common.{◌<◌, length, subst, rules}
 use Rattle.hir_life.specs.Environment.{IsSound}
 use Rattle.hir_life.proofs.Visits.{visits_none, visit_begins, visit_steps, visit_ends, visit_over, visit_nearer}
 use Rattle.hir_life.proofs.visiting.SubtypeLifetimeVisitor.visit_subtypes.Goals as goal

@@ -1,4 +1,4 @@
-use Rattle.std.proofs.Common.{◌≡◌, [], ◌∙◌, ap, rules}
+use Rattle.std.proofs.Common.{◌≡◌, [], ◌∙◌, ap}
 use Rattle.hir_life.specs.Walk.{walk_from}
 use Rattle.hir_life.proofs.Following.{from_first_begin, begin_walk}
 use Rattle.hir_life.proofs.walks.LifetimeTransitivityIterator.new.Goals as goal
