@@ -1,8 +1,8 @@
 //! The attributes of declarations: marks for backends, and what renames.
 
+pub use crate::rename::{RenameAttr, RenameFault};
 use crate::text::Text;
 use sqlite_items::{Boxed, Items};
-use std::marker::Model;
 
 /// The attributes of one declaration, as written.
 #[derive(Drop)]
@@ -104,29 +104,4 @@ pub enum AttrInheritContext {
     MethodOrImplFromModule,
     /// A submodule.
     Module,
-}
-
-/// How names are changed: a pattern in which `{0}` stands for the name, or nothing.
-#[derive(Drop)]
-pub struct RenameAttr {
-    pattern: Option<Text>,
-}
-
-impl Model for RenameAttr {
-    ghost use Rattle.std.specs.Prelude.{Option, List, ℕ};
-
-    ghost Value = { Option (List ℕ) };
-
-    ghost view = { λ it. it.pattern };
-}
-
-impl RenameAttr {
-    ghost use Rattle.std.specs.Prelude.{◌≡◌, None};
-
-    /// The attribute that changes nothing.
-    pub fn empty() -> RenameAttr
-        ensures { result ≡ None }
-    {
-        RenameAttr { pattern: None }
-    }
 }

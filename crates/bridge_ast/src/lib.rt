@@ -12,6 +12,7 @@ pub mod lifetimes;
 pub mod methods;
 pub mod modules;
 pub mod paths;
+pub mod rename;
 pub mod structs;
 pub mod text;
 pub mod traits;

@@ -1,6 +1,6 @@
 //! Owned text.
 
-ghost use Rattle.std.specs.Prelude.{◌≡◌, IfOk, Some, nat_eq, refl};
+ghost use Rattle.std.specs.Prelude.{◌≡◌, ◌++◌, IfOk, Some, nat_eq, refl};
 ghost use Rattle.std.specs.Cmp.{partial_equiv_from_equiv};
 ghost use Rattle.std.specs.Cmp.Lexicographic.{pointwise, slice_cmp, nat_list_eq_equiv, nat_list_cmp_total, texts_ties, texts_po};
 ghost use Rattle.std.specs.Ordering.{nat_cmp};
@@ -35,6 +35,21 @@ impl Text {
         Ok(Text {
             text: String::from_str(alloc, s)?,
         })
+    }
+
+    /// The three texts one after another, as one.
+    pub(crate) fn joined(
+        alloc: Global,
+        front: &str,
+        middle: &str,
+        back: &str,
+    ) -> Result<Text, NoMemory>
+        ensures { IfOk result (λ t. t ≡ front.now ++ middle.now ++ back.now) }
+    {
+        let mut text = String::from_str(alloc, front)?;
+        text.push_str(middle)?;
+        text.push_str(back)?;
+        Ok(Text { text })
     }
 
     /// The text, lent.
