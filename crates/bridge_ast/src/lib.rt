@@ -4,6 +4,7 @@
 #![tactic(auto)]
 
 pub mod attrs;
+mod clones;
 pub mod docs;
 pub mod enums;
 pub mod functions;
