@@ -1,8 +1,12 @@
 //! The documentation of declarations.
 
+ghost use Rattle.std.specs.Prelude.{◌≡◌, IfOk};
+
 use crate::attrs::DiplomatBackendAttrCfg;
-use crate::text::Text;
+use crate::clones::{clone_items, clone_texts};
+use crate::text::{NoMemory, Text};
 use sqlite_items::Items;
+use std::alloc::Global;
 
 /// What documents one declaration.
 #[derive(Drop)]
@@ -11,6 +15,18 @@ pub struct Docs {
     pub blocks: Items<DocBlock>,
     /// The links to Rust's documentation, in order.
     pub links: Items<RustLink>,
+}
+
+impl Docs {
+    /// A copy, which is equal to the documentation.
+    pub fn try_clone(&self, alloc: Global) -> Result<Docs, NoMemory>
+        ensures { IfOk result (λ copy. copy ≡ self.now) }
+    {
+        Ok(Docs {
+            blocks: clone_items(alloc, &self.blocks, DocBlock::try_clone)?,
+            links: clone_items(alloc, &self.links, RustLink::try_clone)?,
+        })
+    }
 }
 
 /// Lines for the backends that meet a condition.
@@ -22,6 +38,18 @@ pub struct DocBlock {
     pub lines: Text,
 }
 
+impl DocBlock {
+    /// A copy, which is equal to the block.
+    pub fn try_clone(&self, alloc: Global) -> Result<DocBlock, NoMemory>
+        ensures { IfOk result (λ copy. copy ≡ self.now) }
+    {
+        Ok(DocBlock {
+            cfg: self.cfg.try_clone(alloc)?,
+            lines: self.lines.try_clone(alloc)?,
+        })
+    }
+}
+
 /// A link to the documentation of a Rust item.
 #[derive(Drop)]
 pub struct RustLink {
@@ -31,6 +59,19 @@ pub struct RustLink {
     pub typ: DocType,
     /// How the link is shown.
     pub display: RustLinkDisplay,
+}
+
+impl RustLink {
+    /// A copy, which is equal to the link.
+    pub fn try_clone(&self, alloc: Global) -> Result<RustLink, NoMemory>
+        ensures { IfOk result (λ copy. copy ≡ self.now) }
+    {
+        Ok(RustLink {
+            path: clone_texts(alloc, &self.path)?,
+            typ: self.typ,
+            display: self.display,
+        })
+    }
 }
 
 /// How a link is shown.

@@ -1,10 +1,14 @@
 //! Enums without fields.
 
+ghost use Rattle.std.specs.Prelude.{◌≡◌, IfOk};
+
 use crate::attrs::Attrs;
+use crate::clones::clone_items;
 use crate::docs::Docs;
 use crate::methods::Method;
-use crate::text::Text;
+use crate::text::{NoMemory, Text};
 use sqlite_items::Items;
+use std::alloc::Global;
 
 /// An enum.
 #[derive(Drop)]
@@ -21,6 +25,21 @@ pub struct Enum {
     pub attrs: Attrs,
 }
 
+impl Enum {
+    /// A copy, which is equal to the enum.
+    pub fn try_clone(&self, alloc: Global) -> Result<Enum, NoMemory>
+        ensures { IfOk result (λ copy. copy ≡ self.now) }
+    {
+        Ok(Enum {
+            name: self.name.try_clone(alloc)?,
+            variants: clone_items(alloc, &self.variants, Variant::try_clone)?,
+            methods: clone_items(alloc, &self.methods, Method::try_clone)?,
+            docs: self.docs.try_clone(alloc)?,
+            attrs: self.attrs.try_clone(alloc)?,
+        })
+    }
+}
+
 /// A variant of an enum.
 #[derive(Drop)]
 pub struct Variant {
@@ -32,4 +51,18 @@ pub struct Variant {
     pub docs: Docs,
     /// The attributes.
     pub attrs: Attrs,
+}
+
+impl Variant {
+    /// A copy, which is equal to the variant.
+    pub fn try_clone(&self, alloc: Global) -> Result<Variant, NoMemory>
+        ensures { IfOk result (λ copy. copy ≡ self.now) }
+    {
+        Ok(Variant {
+            name: self.name.try_clone(alloc)?,
+            discriminant: self.discriminant,
+            docs: self.docs.try_clone(alloc)?,
+            attrs: self.attrs.try_clone(alloc)?,
+        })
+    }
 }

@@ -1,12 +1,16 @@
 //! Free functions.
 
+ghost use Rattle.std.specs.Prelude.{◌≡◌, IfOk};
+
 use crate::attrs::Attrs;
+use crate::clones::{clone_items, clone_option};
 use crate::docs::Docs;
 use crate::lifetimes::LifetimeEnv;
 use crate::methods::Param;
-use crate::text::Text;
+use crate::text::{NoMemory, Text};
 use crate::types::TypeName;
 use sqlite_items::Items;
+use std::alloc::Global;
 
 /// A function of a module.
 #[derive(Drop)]
@@ -25,4 +29,21 @@ pub struct Function {
     pub docs: Docs,
     /// The attributes.
     pub attrs: Attrs,
+}
+
+impl Function {
+    /// A copy, which is equal to the function.
+    pub fn try_clone(&self, alloc: Global) -> Result<Function, NoMemory>
+        ensures { IfOk result (λ copy. copy ≡ self.now) }
+    {
+        Ok(Function {
+            name: self.name.try_clone(alloc)?,
+            abi_name: self.abi_name.try_clone(alloc)?,
+            lifetimes: self.lifetimes.try_clone(alloc)?,
+            params: clone_items(alloc, &self.params, Param::try_clone)?,
+            output_type: clone_option(alloc, &self.output_type, TypeName::try_clone)?,
+            docs: self.docs.try_clone(alloc)?,
+            attrs: self.attrs.try_clone(alloc)?,
+        })
+    }
 }

@@ -1,12 +1,16 @@
 //! Methods of types, and parameters.
 
+ghost use Rattle.std.specs.Prelude.{◌≡◌, IfOk};
+
 use crate::attrs::Attrs;
+use crate::clones::{clone_items, clone_option};
 use crate::docs::Docs;
 use crate::lifetimes::{Lifetime, LifetimeEnv};
 use crate::paths::PathType;
-use crate::text::Text;
-use crate::types::{Mutability, TypeName};
+use crate::text::{NoMemory, Text};
+use crate::types::{Mutability, TypeName, clone_borrow};
 use sqlite_items::Items;
+use std::alloc::Global;
 
 /// A method of a type.
 #[derive(Drop)]
@@ -31,6 +35,25 @@ pub struct Method {
     pub attrs: Attrs,
 }
 
+impl Method {
+    /// A copy, which is equal to the method.
+    pub fn try_clone(&self, alloc: Global) -> Result<Method, NoMemory>
+        ensures { IfOk result (λ copy. copy ≡ self.now) }
+    {
+        Ok(Method {
+            name: self.name.try_clone(alloc)?,
+            abi_name: self.abi_name.try_clone(alloc)?,
+            self_type: self.self_type.try_clone(alloc)?,
+            self_param: clone_option(alloc, &self.self_param, SelfParam::try_clone)?,
+            lifetime_env: self.lifetime_env.try_clone(alloc)?,
+            params: clone_items(alloc, &self.params, Param::try_clone)?,
+            return_type: clone_option(alloc, &self.return_type, TypeName::try_clone)?,
+            docs: self.docs.try_clone(alloc)?,
+            attrs: self.attrs.try_clone(alloc)?,
+        })
+    }
+}
+
 /// A parameter.
 #[derive(Drop)]
 pub struct Param {
@@ -42,6 +65,19 @@ pub struct Param {
     pub attrs: Attrs,
 }
 
+impl Param {
+    /// A copy, which is equal to the parameter.
+    pub fn try_clone(&self, alloc: Global) -> Result<Param, NoMemory>
+        ensures { IfOk result (λ copy. copy ≡ self.now) }
+    {
+        Ok(Param {
+            name: self.name.try_clone(alloc)?,
+            ty: self.ty.try_clone(alloc)?,
+            attrs: self.attrs.try_clone(alloc)?,
+        })
+    }
+}
+
 /// The receiver of a method.
 #[derive(Drop)]
 pub struct SelfParam {
@@ -51,4 +87,17 @@ pub struct SelfParam {
     pub path_type: PathType,
     /// The attributes.
     pub attrs: Attrs,
+}
+
+impl SelfParam {
+    /// A copy, which is equal to the receiver.
+    pub fn try_clone(&self, alloc: Global) -> Result<SelfParam, NoMemory>
+        ensures { IfOk result (λ copy. copy ≡ self.now) }
+    {
+        Ok(SelfParam {
+            reference: clone_option(alloc, &self.reference, clone_borrow)?,
+            path_type: self.path_type.try_clone(alloc)?,
+            attrs: self.attrs.try_clone(alloc)?,
+        })
+    }
 }

@@ -1,12 +1,16 @@
 //! Modules and the items that stand in them.
 
+ghost use Rattle.std.specs.Prelude.{◌≡◌, IfOk};
+
 use crate::attrs::Attrs;
+use crate::clones::{clone_items, clone_texts};
 use crate::enums::Enum;
 use crate::functions::Function;
 use crate::structs::{OpaqueType, Struct};
-use crate::text::Text;
+use crate::text::{NoMemory, Text};
 use crate::traits::Trait;
 use sqlite_items::Items;
+use std::alloc::Global;
 
 /// A module of a foreign interface.
 #[derive(Drop)]
@@ -21,6 +25,20 @@ pub struct Module {
     pub aliases: Items<Alias>,
 }
 
+impl Module {
+    /// A copy, which is equal to the module.
+    pub fn try_clone(&self, alloc: Global) -> Result<Module, NoMemory>
+        ensures { IfOk result (λ copy. copy ≡ self.now) }
+    {
+        Ok(Module {
+            path: clone_texts(alloc, &self.path)?,
+            attrs: self.attrs.try_clone(alloc)?,
+            items: clone_items(alloc, &self.items, Item::try_clone)?,
+            aliases: clone_items(alloc, &self.aliases, Alias::try_clone)?,
+        })
+    }
+}
+
 /// A name in a module for what a path names.
 #[derive(Drop)]
 pub struct Alias {
@@ -28,6 +46,18 @@ pub struct Alias {
     pub name: Text,
     /// The segments of the path that it stands for.
     pub target: Items<Text>,
+}
+
+impl Alias {
+    /// A copy, which is equal to the alias.
+    pub fn try_clone(&self, alloc: Global) -> Result<Alias, NoMemory>
+        ensures { IfOk result (λ copy. copy ≡ self.now) }
+    {
+        Ok(Alias {
+            name: self.name.try_clone(alloc)?,
+            target: clone_texts(alloc, &self.target)?,
+        })
+    }
 }
 
 /// An item of a module.
@@ -43,4 +73,19 @@ pub enum Item {
     Trait(Trait),
     /// A free function.
     Function(Function),
+}
+
+impl Item {
+    /// A copy, which is equal to the item.
+    pub fn try_clone(&self, alloc: Global) -> Result<Item, NoMemory>
+        ensures { IfOk result (λ copy. copy ≡ self.now) }
+    {
+        match self {
+            Item::Struct(item) => Ok(Item::Struct(item.try_clone(alloc)?)),
+            Item::Opaque(item) => Ok(Item::Opaque(item.try_clone(alloc)?)),
+            Item::Enum(item) => Ok(Item::Enum(item.try_clone(alloc)?)),
+            Item::Trait(item) => Ok(Item::Trait(item.try_clone(alloc)?)),
+            Item::Function(item) => Ok(Item::Function(item.try_clone(alloc)?)),
+        }
+    }
 }

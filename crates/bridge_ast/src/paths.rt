@@ -1,8 +1,12 @@
 //! Paths to declarations.
 
+ghost use Rattle.std.specs.Prelude.{◌≡◌, IfOk};
+
+use crate::clones::{clone_items, clone_texts};
 use crate::lifetimes::Lifetime;
-use crate::text::Text;
+use crate::text::{NoMemory, Text};
 use sqlite_items::Items;
+use std::alloc::Global;
 
 /// A path as it is written, with the lifetimes that it is given.
 #[derive(Drop)]
@@ -11,4 +15,16 @@ pub struct PathType {
     pub segments: Items<Text>,
     /// The lifetimes that are written; the rest are anonymous.
     pub lifetimes: Items<Lifetime>,
+}
+
+impl PathType {
+    /// A copy, which is equal to the path.
+    pub fn try_clone(&self, alloc: Global) -> Result<PathType, NoMemory>
+        ensures { IfOk result (λ copy. copy ≡ self.now) }
+    {
+        Ok(PathType {
+            segments: clone_texts(alloc, &self.segments)?,
+            lifetimes: clone_items(alloc, &self.lifetimes, Lifetime::try_clone)?,
+        })
+    }
 }

@@ -1,12 +1,16 @@
 //! Structs, passed by their fields, and opaques, passed by pointer.
 
+ghost use Rattle.std.specs.Prelude.{◌≡◌, IfOk};
+
 use crate::attrs::Attrs;
+use crate::clones::clone_items;
 use crate::docs::Docs;
 use crate::lifetimes::LifetimeEnv;
 use crate::methods::Method;
-use crate::text::Text;
+use crate::text::{NoMemory, Text};
 use crate::types::{Mutability, TypeName};
 use sqlite_items::Items;
+use std::alloc::Global;
 
 /// A struct.
 #[derive(Drop)]
@@ -27,6 +31,23 @@ pub struct Struct {
     pub attrs: Attrs,
 }
 
+impl Struct {
+    /// A copy, which is equal to the struct.
+    pub fn try_clone(&self, alloc: Global) -> Result<Struct, NoMemory>
+        ensures { IfOk result (λ copy. copy ≡ self.now) }
+    {
+        Ok(Struct {
+            name: self.name.try_clone(alloc)?,
+            lifetimes: self.lifetimes.try_clone(alloc)?,
+            fields: clone_items(alloc, &self.fields, Field::try_clone)?,
+            methods: clone_items(alloc, &self.methods, Method::try_clone)?,
+            output_only: self.output_only,
+            docs: self.docs.try_clone(alloc)?,
+            attrs: self.attrs.try_clone(alloc)?,
+        })
+    }
+}
+
 /// A field of a struct.
 #[derive(Drop)]
 pub struct Field {
@@ -38,6 +59,20 @@ pub struct Field {
     pub docs: Docs,
     /// The attributes.
     pub attrs: Attrs,
+}
+
+impl Field {
+    /// A copy, which is equal to the field.
+    pub fn try_clone(&self, alloc: Global) -> Result<Field, NoMemory>
+        ensures { IfOk result (λ copy. copy ≡ self.now) }
+    {
+        Ok(Field {
+            name: self.name.try_clone(alloc)?,
+            ty: self.ty.try_clone(alloc)?,
+            docs: self.docs.try_clone(alloc)?,
+            attrs: self.attrs.try_clone(alloc)?,
+        })
+    }
 }
 
 /// A type whose fields stay on Rust's side.
@@ -57,4 +92,21 @@ pub struct OpaqueType {
     pub docs: Docs,
     /// The attributes.
     pub attrs: Attrs,
+}
+
+impl OpaqueType {
+    /// A copy, which is equal to the opaque.
+    pub fn try_clone(&self, alloc: Global) -> Result<OpaqueType, NoMemory>
+        ensures { IfOk result (λ copy. copy ≡ self.now) }
+    {
+        Ok(OpaqueType {
+            name: self.name.try_clone(alloc)?,
+            lifetimes: self.lifetimes.try_clone(alloc)?,
+            mutability: self.mutability,
+            methods: clone_items(alloc, &self.methods, Method::try_clone)?,
+            dtor_abi_name: self.dtor_abi_name.try_clone(alloc)?,
+            docs: self.docs.try_clone(alloc)?,
+            attrs: self.attrs.try_clone(alloc)?,
+        })
+    }
 }

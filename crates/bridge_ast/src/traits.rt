@@ -1,13 +1,17 @@
 //! Traits that the foreign side implements.
 
+ghost use Rattle.std.specs.Prelude.{◌≡◌, IfOk};
+
 use crate::attrs::Attrs;
+use crate::clones::{clone_items, clone_option};
 use crate::docs::Docs;
 use crate::lifetimes::{Lifetime, LifetimeEnv};
 use crate::methods::Param;
 use crate::paths::PathType;
-use crate::text::Text;
-use crate::types::{Mutability, TypeName};
+use crate::text::{NoMemory, Text};
+use crate::types::{Mutability, TypeName, clone_borrow};
 use sqlite_items::Items;
+use std::alloc::Global;
 
 /// A trait.
 #[derive(Drop)]
@@ -26,6 +30,23 @@ pub struct Trait {
     pub docs: Docs,
     /// The attributes.
     pub attrs: Attrs,
+}
+
+impl Trait {
+    /// A copy, which is equal to the trait.
+    pub fn try_clone(&self, alloc: Global) -> Result<Trait, NoMemory>
+        ensures { IfOk result (λ copy. copy ≡ self.now) }
+    {
+        Ok(Trait {
+            name: self.name.try_clone(alloc)?,
+            lifetimes: self.lifetimes.try_clone(alloc)?,
+            methods: clone_items(alloc, &self.methods, TraitMethod::try_clone)?,
+            is_send: self.is_send,
+            is_sync: self.is_sync,
+            docs: self.docs.try_clone(alloc)?,
+            attrs: self.attrs.try_clone(alloc)?,
+        })
+    }
 }
 
 /// A method of a trait.
@@ -47,6 +68,23 @@ pub struct TraitMethod {
     pub attrs: Attrs,
 }
 
+impl TraitMethod {
+    /// A copy, which is equal to the method.
+    pub fn try_clone(&self, alloc: Global) -> Result<TraitMethod, NoMemory>
+        ensures { IfOk result (λ copy. copy ≡ self.now) }
+    {
+        Ok(TraitMethod {
+            name: self.name.try_clone(alloc)?,
+            lifetimes: self.lifetimes.try_clone(alloc)?,
+            self_param: clone_option(alloc, &self.self_param, TraitSelfParam::try_clone)?,
+            params: clone_items(alloc, &self.params, Param::try_clone)?,
+            output_type: clone_option(alloc, &self.output_type, TypeName::try_clone)?,
+            docs: self.docs.try_clone(alloc)?,
+            attrs: self.attrs.try_clone(alloc)?,
+        })
+    }
+}
+
 /// The receiver of a trait's method.
 #[derive(Drop)]
 pub struct TraitSelfParam {
@@ -54,4 +92,16 @@ pub struct TraitSelfParam {
     pub reference: Option<(Lifetime, Mutability)>,
     /// The trait.
     pub path_trait: PathType,
+}
+
+impl TraitSelfParam {
+    /// A copy, which is equal to the receiver.
+    pub fn try_clone(&self, alloc: Global) -> Result<TraitSelfParam, NoMemory>
+        ensures { IfOk result (λ copy. copy ≡ self.now) }
+    {
+        Ok(TraitSelfParam {
+            reference: clone_option(alloc, &self.reference, clone_borrow)?,
+            path_trait: self.path_trait.try_clone(alloc)?,
+        })
+    }
 }

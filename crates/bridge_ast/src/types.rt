@@ -1,10 +1,13 @@
 //! The types of fields, parameters and returns.
 
-ghost use Rattle.std.specs.Prelude.{◌≡◌, ◌↔◌, IsTrue};
+ghost use Rattle.std.specs.Prelude.{◌≡◌, ◌↔◌, IsTrue, IfOk};
 
+use crate::clones::clone_option;
 use crate::lifetimes::Lifetime;
 use crate::paths::PathType;
+use crate::text::NoMemory;
 use sqlite_items::{Boxed, Items};
+use std::alloc::Global;
 
 /// Whether a reference may be written through.
 #[derive(Clone, Copy)]
@@ -120,4 +123,85 @@ pub enum TypeName {
     Function(Items<TypeName>, Boxed<TypeName>, Mutability),
     /// `()`.
     Unit,
+}
+
+impl TypeName {
+    /// A copy, which is equal to the type.
+    #[cycle(copies)]
+    pub fn try_clone(&self, alloc: Global) -> Result<TypeName, NoMemory>
+        ensures { IfOk result (λ copy. copy ≡ self.now) }
+    {
+        match self {
+            TypeName::Primitive(primitive) => Ok(TypeName::Primitive(*primitive)),
+            TypeName::Ordering => Ok(TypeName::Ordering),
+            TypeName::Named(path) => Ok(TypeName::Named(path.try_clone(alloc)?)),
+            TypeName::SelfType(path) => Ok(TypeName::SelfType(path.try_clone(alloc)?)),
+            TypeName::ImplTrait(path) => Ok(TypeName::ImplTrait(path.try_clone(alloc)?)),
+            TypeName::Reference(lifetime, mutability, inner) => {
+                let lifetime = lifetime.try_clone(alloc)?;
+                let inner = TypeName::clone_boxed(alloc, inner)?;
+                Ok(TypeName::Reference(lifetime, *mutability, inner))
+            }
+            TypeName::Box(inner) => Ok(TypeName::Box(TypeName::clone_boxed(alloc, inner)?)),
+            TypeName::Option(inner, spelling) => {
+                let inner = TypeName::clone_boxed(alloc, inner)?;
+                Ok(TypeName::Option(inner, *spelling))
+            }
+            TypeName::Result(ok, err, spelling) => {
+                let ok = TypeName::clone_boxed(alloc, ok)?;
+                let err = TypeName::clone_boxed(alloc, err)?;
+                Ok(TypeName::Result(ok, err, *spelling))
+            }
+            TypeName::Write(target) => Ok(TypeName::Write(*target)),
+            TypeName::StrReference(lifetime, encoding, spelling) => {
+                let lifetime = clone_option(alloc, lifetime, Lifetime::try_clone)?;
+                Ok(TypeName::StrReference(lifetime, *encoding, *spelling))
+            }
+            TypeName::StrSlice(encoding, spelling) => Ok(TypeName::StrSlice(*encoding, *spelling)),
+            TypeName::PrimitiveSlice(borrow, primitive, spelling) => {
+                let borrow = clone_option(alloc, borrow, clone_borrow)?;
+                Ok(TypeName::PrimitiveSlice(borrow, *primitive, *spelling))
+            }
+            TypeName::CustomTypeSlice(borrow, element, spelling) => {
+                let borrow = clone_option(alloc, borrow, clone_borrow)?;
+                let element = TypeName::clone_boxed(alloc, element)?;
+                Ok(TypeName::CustomTypeSlice(borrow, element, *spelling))
+            }
+            TypeName::Function(inputs, output, mutability) => {
+                let inputs = TypeName::clone_each(alloc, inputs)?;
+                let output = TypeName::clone_boxed(alloc, output)?;
+                Ok(TypeName::Function(inputs, output, *mutability))
+            }
+            TypeName::Unit => Ok(TypeName::Unit),
+        }
+    }
+
+    #[cycle(copies)]
+    fn clone_boxed(alloc: Global, ty: &Boxed<TypeName>) -> Result<Boxed<TypeName>, NoMemory>
+        ensures { IfOk result (λ copy. copy ≡ ty.now) }
+    {
+        Boxed::new(alloc, ty.get().try_clone(alloc)?)
+    }
+
+    #[cycle(copies)]
+    fn clone_each(alloc: Global, types: &Items<TypeName>) -> Result<Items<TypeName>, NoMemory>
+        ensures { IfOk result (λ copies. copies ≡ types.now) }
+    {
+        let mut copies = Items::new(alloc);
+        for ty in types.as_slice() {
+            copies.push(ty.try_clone(alloc)?)?;
+        }
+        Ok(copies)
+    }
+}
+
+/// A copy of a lifetime with its mutability, which is equal to them.
+pub(crate) fn clone_borrow(
+    borrow: &(Lifetime, Mutability),
+    alloc: Global,
+) -> Result<(Lifetime, Mutability), NoMemory>
+    ensures { IfOk result (λ copy. copy ≡ borrow.now) }
+{
+    let (lifetime, mutability) = borrow;
+    Ok((lifetime.try_clone(alloc)?, *mutability))
 }
