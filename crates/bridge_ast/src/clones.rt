@@ -45,3 +45,6 @@ pub(crate) fn clone_texts(alloc: Global, texts: &Items<Text>) -> Result<Items<Te
 {
     clone_items(alloc, texts, Text::try_clone)
 }
+
+#[cfg(test)]
+mod tests;
