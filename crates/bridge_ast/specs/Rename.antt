@@ -14,7 +14,8 @@ placeholder_count [] = 0
 placeholder_count (byte ∷ rest) =
     if starts_with nat_eq (byte ∷ rest) placeholder then suc (placeholder_count rest) else placeholder_count rest
 
--- a pattern with a place for the name makes of it the text before the place, the name and the text after; any other pattern is the text itself
+-- what a pattern makes of a name: where it has a place for the name, the text before the place, the name and the text after it;
+-- any other pattern is itself the text
 pub record IsFilled (pattern name text : List ℕ) : Type 0 where
   pub around : (front back : List ℕ) → pattern ≡ front ++ placeholder ++ back → text ≡ front ++ name ++ back
   pub whole : placeholder_count pattern ≡ 0 → text ≡ pattern
