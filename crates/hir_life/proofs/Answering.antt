@@ -11,6 +11,7 @@ use Rattle.hir_life.specs.Outlives.{Linked, Outlives}
 use Rattle.hir_life.specs.Walk.{Walk, Gives, Ends}
 use Rattle.hir_life.specs.Listing.{IsOnceEach, ListsLonger, bounds_declared}
 use Rattle.hir_life.proofs.Marking.{apart_more}
+use Rattle.hir_life.proofs.Ordering.{gives_start}
 use Rattle.hir_life.proofs.Flagging.{belongs_to, belonging}
 use Rattle.hir_life.proofs.Distinct.{distinct_fits, distinct_below}
 
@@ -65,7 +66,7 @@ collected_more e s w after ls l is gives =
             | inl was ↦ is.within k was
             | inr now ↦ omega (arith, now, gives.within, ap (λ x. x.count) is.environment)
           ];
-      first = λ _. first_more ls s l is.first (λ none. gives.first (is.given ∙ none) ∙ is.start);
+      first = λ _. first_more ls s l is.first (λ none. gives_start w after l gives (is.given ∙ none) ∙ is.start);
       once = apart_more ls l (λ h. gives.fresh (subst (λ x. Contains x l) (sym is.given) h)) is.once;
     } in
     subst (λ x. Collected e s x (ls ++ l ∷ [])) (sym gives.follows) next

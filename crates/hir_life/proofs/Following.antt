@@ -1,7 +1,7 @@
 -- A walk on its way, from the state before a step to the state after it.
 use Rattle.std.proofs.Common.{◌≡◌, ℕ, ◌+◌, ◌-◌, ◌<◌, ◌≤◌, inl, inr, Bool, false, Option, Some, None, List, [], ◌∷◌, ◌++◌, length, get_or, take, refl, sym, ◌∙◌, ap, subst, arith, length-append}
-use Rattle.std.specs.List.{Contains}
-use Rattle.std.proofs.lemmas.List.{take_more, take-append-le, take_all, get_or-take, length-take-le, get_or_past}
+use Rattle.std.specs.List.{Contains, flat_map}
+use Rattle.std.proofs.lemmas.List.{take_more, take-append-le, take_all, get_or-take, length-take-le, get_or_past, flat_map_more}
 use Rattle.std.proofs.Math.ListN.{get_or-append}
 use Rattle.std.proofs.lemmas.List.Elements.{Contains-get_or, Contains-append_left, Contains-push_cases, Contains-append_cases}
 use Rattle.std.proofs.lemmas.Grind.{get_or_default_zero}
@@ -13,9 +13,11 @@ use Rattle.hir_life.specs.Outlives.{Outlives}
 use Rattle.hir_life.specs.Listing.{IsOnceEach}
 use Rattle.hir_life.specs.Queue.{Queue, IsQueue, Advances, Moves, Begins, IsFromFirst, walk_of}
 use Rattle.hir_life.specs.Reaching.{Marks, Reaches}
-use Rattle.hir_life.specs.Walk.{Walk, Gives, Ends, WalksOn, walk_from}
+use Rattle.hir_life.specs.First.{IsFirstNotIn, AreFirstNotIn}
+use Rattle.hir_life.specs.Walk.{Walk, Gives, Ends, WalksOn, walk_from, candidates}
 use Rattle.std.specs.Iterator.{MakesProgress, at_most}
 use Rattle.hir_life.proofs.Distinct.{distinct_below}
+use Rattle.hir_life.proofs.Ordering.{first_right, ordered_append, each_in_pieces}
 use Rattle.hir_life.proofs.Chains.{outlives_itself, outlives_by_longer, closed_has_longer}
 
 -- bounds name lifetimes of the environment
@@ -58,6 +60,13 @@ front_stays old more head within = take-append-le head old more within
 
 front_more : (old more : List ℕ) (head : ℕ) → head < length old → take (head + 1) (old ++ more) ≡ take head old ++ get_or old head 0 ∷ []
 front_more old more head within = take-append-le (head + 1) old more (omega arith) ∙ take_more old head 0 within
+
+-- what was given, and then l
+front_then :
+    (q after : Queue) (l : ℕ) → Advances q l after → take (q.given + 1) after.reached ≡ take q.given q.reached ++ l ∷ []
+front_then q after l step =
+    ap (take (q.given + 1)) step.reaches.grown ∙ front_more q.reached step.reaches.more q.given step.waiting
+    ∙ ap (λ x. take q.given q.reached ++ x ∷ []) (sym step.here)
 
 -- a list of lifetimes that has, with each of its first ones, the bounds of this one
 abbrev pub Closed : (ℕ → List ℕ) → List ℕ → ℕ → Type 0
@@ -107,6 +116,18 @@ module _ (q after : Queue) (s : ℕ) (none : q.reached ≡ []) (begins : Begins 
   begin_first : get_or after.reached 0 0 ≡ s
   begin_first = sym (begin_only (get_or after.reached 0 0) (Contains-get_or after.reached 0 0 begin_some))
 
+  begin_order : AreFirstNotIn [] (candidates (walk_of after)) after.reached
+  begin_order =
+      let grown : after.reached ≡ begins.reaches.more =
+      begins.reaches.grown ∙ ap (λ x. x ++ begins.reaches.more) none in
+      let alone : AreFirstNotIn [] (s ∷ []) after.reached =
+      subst (λ x. AreFirstNotIn [] (s ∷ []) x) (sym grown)
+      (subst (λ x. AreFirstNotIn x (s ∷ []) begins.reaches.more) none begins.reaches.ordered) in
+      let rest : List ℕ =
+      flat_map (followed after.environment after.direction) (take after.given after.reached) in
+      subst (λ x. AreFirstNotIn [] (x ∷ rest) after.reached) (sym begin_first)
+      (λ i within. first_right (take i after.reached) (s ∷ []) rest (get_or after.reached i 0) (alone i within))
+
   pub from_first_begin : IsFromFirst after
   from_first_begin =
       record {
@@ -114,6 +135,7 @@ module _ (q after : Queue) (s : ℕ) (none : q.reached ≡ []) (begins : Begins 
         belong = λ k h.
             subst (λ x. Outlives (followed after.environment after.direction) k x) (sym (begin_only k h) ∙ sym begin_first)
             (outlives_itself (followed after.environment after.direction) k);
+        order = begin_order;
       }
 
   -- nothing was given yet
@@ -124,14 +146,32 @@ module _ (q after : Queue) (s : ℕ) (none : q.reached ≡ []) (begins : Begins 
       let direction : after.direction ≡ q.direction = ap (λ x. x.direction) begins.follows in
       rw (begin_first, given, environment, direction) (grind arith)
 
+-- the candidates of a walk on its way were reached
+candidates_reached :
+    (q : Queue) → IsQueue q → IsFromFirst q → (k : ℕ) → Contains (candidates (walk_of q)) k → Contains q.reached k
+candidates_reached q queue from k h =
+    let direct : (ℕ → List ℕ) = followed q.environment q.direction in
+    let start : ℕ = get_or q.reached 0 0 in
+    elim (Contains-append_cases (start ∷ []) (flat_map direct (take q.given q.reached)) k h) [
+      | inl first ↦
+          subst (λ x. Contains q.reached x) (only start k first) (Contains-get_or q.reached 0 0 from.some)
+      | inr bound ↦
+          each_in_pieces direct (take q.given q.reached) (Contains q.reached) (λ m l. queue.closed m l) k bound
+    ]
+
 -- what was reached along the bounds of what outlives the first outlives the first
-pub from_first_step : (q after : Queue) (l : ℕ) → IsFromFirst q → Advances q l after → IsFromFirst after
-from_first_step q after l from step =
+pub from_first_step :
+    (q after : Queue) (l : ℕ) → IsQueue q → IsFromFirst q → Advances q l after → IsFromFirst after
+from_first_step q after l queue from step =
     let direct : (ℕ → List ℕ) = followed q.environment q.direction in
     let has : Contains q.reached l =
     subst (λ x. Contains q.reached x) (sym step.here) (Contains-get_or q.reached q.given 0 step.waiting) in
     let first : get_or q.reached 0 0 ≡ get_or after.reached 0 0 =
     sym (first_stays q.reached step.reaches.more from.some) ∙ ap (λ x. get_or x 0 0) (sym step.reaches.grown) in
+    let front : take (q.given + 1) after.reached ≡ take q.given q.reached ++ l ∷ [] = front_then q after l step in
+    let more : candidates (walk_of q) ++ direct l
+    ≡ get_or q.reached 0 0 ∷ flat_map direct (take q.given q.reached ++ l ∷ []) =
+    flat_map_more direct (get_or q.reached 0 0 ∷ []) (take q.given q.reached) l in
     let next : IsFromFirst (record q { reached = after.reached; given = q.given + 1 }) =
     record {
       some = omega (arith, from.some, length_more q.reached after.reached (direct l) step.reaches);
@@ -142,13 +182,21 @@ from_first_step q after l from step =
                 subst (λ x. Outlives direct k x) first
                 (outlives_by_longer direct k l (get_or q.reached 0 0) (step.reaches.among k now) (from.belong l has))
           ];
+      order =
+          subst (λ x. AreFirstNotIn [] (get_or after.reached 0 0 ∷ flat_map direct x) after.reached) (sym front)
+          (subst (λ x. AreFirstNotIn [] (x ∷ flat_map direct (take q.given q.reached ++ l ∷ [])) after.reached) first
+          (subst (λ x. AreFirstNotIn [] x after.reached) more
+          (subst (λ x. AreFirstNotIn [] (candidates (walk_of q) ++ direct l) x) (sym step.reaches.grown)
+          (ordered_append [] q.reached step.reaches.more (candidates (walk_of q)) (direct l) from.order
+          (candidates_reached q queue from) step.reaches.ordered))));
     } in
     subst (λ x. IsFromFirst x) (sym step.follows) next
 
 -- the same for whatever a step answers
-pub from_first_moves : (q after : Queue) (answer : Option ℕ) → IsFromFirst q → Moves q answer after → IsFromFirst after
-from_first_moves q after None from moves = subst (λ x. IsFromFirst x) (sym moves.1) from
-from_first_moves q after (Some l) from moves = from_first_step q after l from moves
+pub from_first_moves :
+    (q after : Queue) (answer : Option ℕ) → IsQueue q → IsFromFirst q → Moves q answer after → IsFromFirst after
+from_first_moves q after None queue from moves = subst (λ x. IsFromFirst x) (sym moves.1) from
+from_first_moves q after (Some l) queue from moves = from_first_step q after l queue from moves
 
 fresh_next : (order : List ℕ) (head : ℕ) → IsOnceEach order → head < length order → Contains (take head order) (get_or order head 0) → ⊥
 fresh_next order head apart within h =
@@ -158,12 +206,6 @@ fresh_next order head apart within h =
     sym (get_or_default_zero order h.0 item (omega arith)) ∙ sym (get_or-take head order h.0 item before) ∙ h.2 in
     apart h.0 head before within same
 
-at_start : (order : List ℕ) (head : ℕ) → head < length order → take head order ≡ [] → get_or order head 0 ≡ get_or order 0 0
-at_start order head within none =
-    let e : length (take head order) ≡ 0 = ap length none in
-    let zero : head ≡ 0 = omega (arith, e, length-take-le head order (omega arith)) in
-    ap (λ x. get_or order x 0) zero
-
 -- what a step gives
 gives_next : (q after : Queue) (l : ℕ) → IsQueue q → IsFromFirst q → Advances q l after → Gives (walk_of q) l (walk_of after)
 gives_next q after l queue from step =
@@ -171,14 +213,14 @@ gives_next q after l queue from step =
     subst (λ x. Contains q.reached x) (sym step.here) (Contains-get_or q.reached q.given 0 step.waiting) in
     let first : get_or after.reached 0 0 ≡ get_or q.reached 0 0 =
     ap (λ x. get_or x 0 0) step.reaches.grown ∙ first_stays q.reached step.reaches.more from.some in
-    let front : take (q.given + 1) after.reached ≡ take q.given q.reached ++ l ∷ [] =
-    ap (take (q.given + 1)) step.reaches.grown ∙ front_more q.reached step.reaches.more q.given step.waiting
-    ∙ ap (λ x. take q.given q.reached ++ x ∷ []) (sym step.here) in
+    let front : take (q.given + 1) after.reached ≡ take q.given q.reached ++ l ∷ [] = front_then q after l step in
     record {
       belongs = from.belong l has;
       within = queue.within l has;
       fresh = λ h. fresh_next q.reached q.given queue.once step.waiting (subst (λ x. Contains (take q.given q.reached) x) step.here h);
-      first = λ none. step.here ∙ at_start q.reached q.given step.waiting none;
+      next =
+          subst (λ x. IsFirstNotIn (take q.given q.reached) (candidates (walk_of q)) x) (sym step.here)
+          (from.order q.given step.waiting);
       follows = ap walk_of step.follows ∙ rw (first, front) refl;
     }
 

@@ -1,4 +1,5 @@
 pub mod Chains
+pub mod Ordering
 pub mod Marking
 pub mod Following
 pub mod Flagging

@@ -8,7 +8,9 @@ use Rattle.std.proofs.lemmas.List.Sums.{count_by-le-length, sum_by-set}
 use Rattle.std.proofs.lemmas.List.Elements.{Contains-get_or, Contains-append_left, Contains-append_right, Contains-push, Contains-push_cases, Contains-append_cases}
 use Rattle.std.proofs.lemmas.Grind.{common_steps}
 use Rattle.std.proofs.lemmas.Bool.{cases_lt, cases_eq, false≢true}
+use Rattle.hir_life.specs.First.{AreFirstNotIn}
 use Rattle.hir_life.specs.Reaching.{Marks, Reaches}
+use Rattle.hir_life.proofs.Ordering.{first_alone, ordered_append}
 
 -- a flag that is set anew is counted once more
 count-set :
@@ -103,6 +105,10 @@ reaches_more old mid new lifetimes l first second =
             | inl a ↦ Contains-append_left lifetimes (l ∷ []) k (first.among k a)
             | inr a ↦ Contains-append_right lifetimes (l ∷ []) k (second.among k a)
           ];
+      ordered =
+          ordered_append old first.more second.more lifetimes (l ∷ []) first.ordered
+          (λ k h. subst (λ x. Contains x k) first.grown (first.all k h))
+          (subst (λ x. AreFirstNotIn x (l ∷ []) second.more) first.grown second.ordered);
       all = λ k h.
           elim (Contains-append_cases lifetimes (l ∷ []) k h) [
             | inl a ↦ subst (λ x. Contains x k) (sym second.grown) (Contains-append_left mid second.more k (first.all k a))
@@ -126,6 +132,7 @@ reaches_new old l =
       more = l ∷ [];
       grown = refl;
       among = λ k h. h;
+      ordered = first_alone old l;
       all = λ k h. Contains-append_right old (l ∷ []) k h;
     }
 

@@ -1,3 +1,4 @@
+pub mod First
 pub mod Outlives
 pub mod Environment
 pub mod Naming

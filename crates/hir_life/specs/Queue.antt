@@ -3,10 +3,11 @@
 use Rattle.std.specs.Prelude.{◌≡◌, ℕ, List, [], ◌∷◌, ◌+◌, ◌<◌, ◌≤◌, length, take, slice_index, Option, Some, None}
 use Rattle.std.specs.List.{Contains}
 use Rattle.hir_life.specs.Environment.{Environment, followed}
+use Rattle.hir_life.specs.First.{AreFirstNotIn}
 use Rattle.hir_life.specs.Listing.{IsOnceEach}
 use Rattle.hir_life.specs.Outlives.{Outlives}
 use Rattle.hir_life.specs.Reaching.{Reaches}
-use Rattle.hir_life.specs.Walk.{Walk}
+use Rattle.hir_life.specs.Walk.{Walk, candidates}
 use Rattle.hir_life.specs.declared.walks.Direction.{Direction}
 
 -- where the walk goes, the lifetimes that it has reached in the order in which it gives them, and how many it has given: a and
@@ -42,11 +43,6 @@ pub record Begins (q : Queue) (l : ℕ) (after : Queue) : Type 0 where
   pub reaches : Reaches q.reached after.reached (l ∷ [])
   pub follows : after ≡ record q { reached = after.reached }
 
--- all that was reached outlives the first that was, as seen along the bounds that are followed
-pub record IsFromFirst (q : Queue) : Type 0 where
-  pub some : 0 < length q.reached
-  pub belong : (k : ℕ) → Contains q.reached k → Outlives (followed q.environment q.direction) k (slice_index q.reached 0)
-
 -- the walk as its user sees it: it began with the first that was reached
 abbrev pub walk_of : Queue → Walk
 walk_of q =
@@ -56,3 +52,10 @@ walk_of q =
       start = slice_index q.reached 0;
       given = take q.given q.reached;
     }
+
+-- all that was reached outlives the first that was, as seen along the bounds that are followed, and stands in the order in
+-- which the walk gives it
+pub record IsFromFirst (q : Queue) : Type 0 where
+  pub some : 0 < length q.reached
+  pub belong : (k : ℕ) → Contains q.reached k → Outlives (followed q.environment q.direction) k (slice_index q.reached 0)
+  pub order : AreFirstNotIn [] (candidates (walk_of q)) q.reached

@@ -1,6 +1,7 @@
 -- What a walk over lifetimes gives.
 use Rattle.std.specs.Prelude.{◌≡◌, ℕ, List, [], ◌∷◌, ◌++◌, ◌<◌, Option, Some, None}
-use Rattle.std.specs.List.{Contains}
+use Rattle.std.specs.List.{Contains, flat_map}
+use Rattle.hir_life.specs.First.{IsFirstNotIn}
 use Rattle.hir_life.specs.Outlives.{Outlives}
 use Rattle.hir_life.specs.Environment.{Environment, followed}
 use Rattle.hir_life.specs.declared.walks.Direction.{Direction}
@@ -20,13 +21,19 @@ walk_from environment direction start = record { environment = environment; dire
 abbrev pub Belongs : Walk → ℕ → Type 0
 Belongs w l = Outlives (followed w.environment w.direction) l w.start
 
--- the walk gives l: a lifetime that belongs to it and was not given, which at first is where it starts. From a in
--- `fn f<'a, 'b: 'a>` it gives a, and then b
+-- the start, and after it the bounds of the lifetimes that were given, in the order in which these were given and in which
+-- their bounds are declared: among these the walk looks for its next. From a in `fn f<'a, 'b: 'a, 'c: 'a>` they are a at
+-- first, and a, b, c when a was given
+abbrev pub candidates : Walk → List ℕ
+candidates w = w.start ∷ flat_map (followed w.environment w.direction) w.given
+
+-- the walk gives l: a lifetime that belongs to it and was not given, and of the candidates that were not given the first.
+-- From a in `fn f<'a, 'b: 'a, 'c: 'a>` it gives a, then b, and then c
 pub record Gives (w : Walk) (l : ℕ) (after : Walk) : Type 0 where
   pub belongs : Belongs w l
   pub within : l < w.environment.count
   pub fresh : Contains w.given l → ⊥
-  pub first : w.given ≡ [] → l ≡ w.start
+  pub next : IsFirstNotIn w.given (candidates w) l
   pub follows : after ≡ record w { given = w.given ++ l ∷ [] }
 
 -- the walk is over: it has given all that belongs to it, as a and b

@@ -90,13 +90,14 @@ fn walk_from(
 fn walks(rt: HostRuntime) -> Result<(), Fail> {
     let alloc = rt.alloc();
     let names: [&str; 4] = ["a", "b", "c", "d"];
-    // `'b: 'a, 'c: 'b`; a cycle; a diamond; `'a: 'a`; no bounds; and lifetimes past the names.
-    let rows: [(&[(usize, usize)], usize, &[usize], &[usize]); 9] = [
+    // `'b: 'a, 'c: 'b`; a cycle; a diamond; `'c: 'a, 'b: 'a, 'd: 'c`; `'a: 'a`; no bounds; and lifetimes past the names.
+    let rows: [(&[(usize, usize)], usize, &[usize], &[usize]); 10] = [
         (&[(1, 0), (2, 1)], 0, &[0, 1, 2], &[0]),
         (&[(1, 0), (2, 1)], 1, &[1, 2], &[1, 0]),
         (&[(1, 0), (2, 1)], 2, &[2], &[2, 1, 0]),
         (&[(1, 0), (2, 1), (0, 2)], 1, &[1, 2, 0], &[1, 0, 2]),
         (&[(1, 0), (2, 0), (3, 1), (3, 2)], 0, &[0, 1, 2, 3], &[0]),
+        (&[(2, 0), (1, 0), (3, 2)], 0, &[0, 2, 1, 3], &[0]),
         (&[(0, 0), (1, 0)], 0, &[0, 1], &[0]),
         (&[], 3, &[3], &[3]),
         (&[(1, 0)], 4, &[4], &[4]),

@@ -20,8 +20,10 @@ pub enum Direction {
 
 /// A walk from a lifetime over all that it reaches by bounds of one direction.
 ///
-/// It gives the lifetime itself first and then each other once, and follows each bound once. It has all its room from the
-/// start, so that `next` takes no memory.
+/// It gives the lifetime itself first and then each other once, and follows each bound once: after the lifetime its direct
+/// bounds, in the order in which they are declared, then those of the first of these, and so on. For
+/// `fn f<'a, 'b: 'a, 'c: 'a, 'd: 'b>` the walk from `'a` to the longer gives `'a`, `'b`, `'c`, `'d`. It has all its room from
+/// the start, so that `next` takes no memory.
 #[derive(Drop)]
 pub struct LifetimeTransitivityIterator<'env> {
     walker: Walker<'env>,

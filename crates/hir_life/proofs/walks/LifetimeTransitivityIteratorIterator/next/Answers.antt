@@ -5,7 +5,7 @@ use Rattle.hir_life.proofs.Following.{from_first_moves, walks_on, walk_goes}
 use Rattle.hir_life.proofs.walks.LifetimeTransitivityIteratorIterator.next.Goals as goal
 
 pub invariant_of-self : goal.invariant_of-self
-invariant_of-self c = from_first_moves _ _ _ c.self.invariant c.step.ensures.moves
+invariant_of-self c = from_first_moves _ _ _ c.step.ensures.queue c.self.invariant c.step.ensures.moves
 
 pub returns-clause-steps : goal.returns-clause-steps
 returns-clause-steps c =
