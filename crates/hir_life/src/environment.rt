@@ -142,7 +142,8 @@ impl LifetimeEnv {
         }
     }
 
-    /// The lifetimes that outlive this one: itself first, and then each other once.
+    /// The lifetimes that outlive this one: itself first, and then each other once, in the order in which they are reached along
+    /// the bounds as these are declared. For `fn f<'a, 'b: 'a, 'c: 'a>` and `'a` they are `'a`, `'b`, `'c`.
     pub fn all_longer_lifetimes(
         &self,
         alloc: Global,
@@ -154,7 +155,8 @@ impl LifetimeEnv {
         LifetimeTransitivityIterator::new(alloc, self, Direction::Longer, lt)
     }
 
-    /// The lifetimes that this one outlives: itself first, and then each other once.
+    /// The lifetimes that this one outlives: itself first, and then each other once, in the order in which they are reached along
+    /// the bounds as these are declared.
     ///
     /// One lifetime is among those that a second outlives exactly where the second is among those that outlive the first.
     pub fn all_shorter_lifetimes(
