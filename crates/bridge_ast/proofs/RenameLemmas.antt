@@ -1,5 +1,6 @@
 -- Where a search for the placeholder finds it, and that it stands at one place where it stands at most once.
-use Rattle.std.proofs.Common.{◌≡◌, ◌≢◌, ℕ, suc, ◌<◌, ◌≤◌, Bool, true, false, cond, List, [], ◌∷◌, ◌++◌, length, take, drop, ◌↔◌, inl, inr, refl, sym, subst, ap, ◌∙◌, arith, append_assoc, take-append-drop}
+use Rattle.std.proofs.Common.{◌≡◌, ◌≢◌, ℕ, suc, ◌<◌, ◌≤◌, Bool, true, false, cond, List, [], ◌∷◌, ◌++◌, length, take, drop, ◌↔◌}
+use Rattle.std.proofs.Common.{inl, inr, refl, sym, subst, ap, ◌∙◌, arith, append_assoc, take-append-drop}
 use Rattle.std.specs.List.{starts_with}
 use Rattle.std.specs.Prelude.{nat_eq}
 use Rattle.std.specs.Str.Pattern.{FindsText, LacksTextAt, SplitsAroundMatch}
@@ -34,7 +35,8 @@ count-later (c ∷ front) rest =
     omega arith
 
 -- the first place that a search finds
-pub count-first : (front rest : List ℕ) → ((i : ℕ) → i < length front → LacksTextAt placeholder (front ++ (placeholder ++ rest)) i)
+pub count-first : (front rest : List ℕ) → ((i : ℕ) → i < length front → LacksTextAt placeholder
+    (front ++ (placeholder ++ rest)) i)
     → placeholder_count (front ++ (placeholder ++ rest)) ≡ suc (placeholder_count rest)
 count-first [] rest lacks = count-here rest
 count-first (c ∷ front) rest lacks =
@@ -44,7 +46,8 @@ count-first (c ∷ front) rest lacks =
 pub count-none : (text : List ℕ) → ((front back : List ℕ) → text ≢ front ++ (placeholder ++ back)) → placeholder_count text ≡ 0
 count-none [] none = refl
 count-none (c ∷ cs) none =
-    rw (begins_not (c ∷ cs) (λ rest e. none [] rest e)) (count-none cs (λ front back e. none (c ∷ front) back (ap (λ x. c ∷ x) e)))
+    rw (begins_not (c ∷ cs) (λ rest e. none [] rest e)) (count-none cs (λ front back e. none (c ∷ front) back
+    (ap (λ x. c ∷ x) e)))
 
 stands : (text : List ℕ) → 0 < placeholder_count text → HasSubslice text placeholder
 stands [] some = absurd (omega (arith, some))
@@ -92,7 +95,8 @@ pub filled : (pattern name f b : List ℕ) → pattern ≡ f ++ (placeholder ++ 
     → IsFilled pattern name (f ++ name ++ b)
 filled pattern name f b e once = record {
   around = λ front back g.
-      let same = one_place f b front back (sym e ∙ g ∙ append_assoc front placeholder back) (subst (λ t. placeholder_count t ≤ 1) e once) in
+      let same = one_place f b front back (sym e ∙ g ∙ append_assoc front placeholder back)
+      (subst (λ t. placeholder_count t ≤ 1) e once) in
       let first = same.0 in
       let last = same.1 in
       cc;
@@ -102,14 +106,16 @@ filled pattern name f b e once = record {
 }
 
 -- a pattern in which no place was found
-pub unfilled : (pattern name : List ℕ) → ((front back : List ℕ) → pattern ≢ front ++ (placeholder ++ back)) → IsFilled pattern name pattern
+pub unfilled : (pattern name : List ℕ) → ((front back : List ℕ) → pattern ≢ front ++ (placeholder ++ back))
+    → IsFilled pattern name pattern
 unfilled pattern name none = record {
   around = λ front back e. absurd (none front back (e ∙ append_assoc front placeholder back));
   whole = λ _. refl;
 }
 
 -- what a cut at the first place says
-pub cut_whole : (pattern front back : List ℕ) → SplitsAroundMatch (FindsText placeholder) pattern front back → pattern ≡ front ++ (placeholder ++ back)
+pub cut_whole : (pattern front back : List ℕ) → SplitsAroundMatch (FindsText placeholder) pattern front back
+    → pattern ≡ front ++ (placeholder ++ back)
 cut_whole pattern front back (i, j, found, f, b, up, front_long, back_long) =
     sym (take-append-drop i pattern) ∙ rw (f, b) (ap (λ l. take i pattern ++ l) found.1.split)
 

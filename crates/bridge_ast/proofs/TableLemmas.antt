@@ -1,5 +1,6 @@
 -- A binary search in a sorted table of texts finds exactly the texts of the table.
-use Rattle.std.proofs.Common.{◌≡◌, ℕ, zero, suc, ◌+◌, ◌≢◌, Bool, true, false, ◌&&◌, not, List, [], ◌∷◌, map, length, get_or, IsTrue, ◌↔◌, refl, ap, ◌∙◌, arith, Bor, ◌⊎◌, inl, inr}
+use Rattle.std.proofs.Common.{◌≡◌, ℕ, zero, suc, ◌+◌, ◌≢◌, Bool, true, false, ◌&&◌, not, List, [], ◌∷◌, map, length, get_or}
+use Rattle.std.proofs.Common.{IsTrue, ◌↔◌, refl, ap, ◌∙◌, arith, Bor, ◌⊎◌, inl, inr}
 use Rattle.std.specs.Prelude.{Result, Ok, Err, is_ok, Contains, All}
 use Rattle.bridge_ast.specs.Ident.{rises}
 use Rattle.std.specs.declared.cmp.Ordering.TheVariants.{Less, Greater}
@@ -47,9 +48,14 @@ pub found_in_table : (table : List (Bor (List ℕ))) (s : List ℕ) (r : Result 
 found_in_table [] s (Ok i) up bound h = absurd (omega (arith, bound))
 found_in_table (d ∷ ds) s (Ok i) up bound h =
     let same : (get_or (d ∷ ds) i d).now ≡ s = exact_bytes _ _ (h d) in
-    let at : get_or (map (λ (y : Bor (List ℕ)). y.now) (d ∷ ds)) i s ≡ (get_or (d ∷ ds) i d).now = get_or-map (λ (y : Bor (List ℕ)). y.now) (d ∷ ds) i d s bound in
+    let at : get_or (map (λ (y : Bor (List ℕ)). y.now) (d ∷ ds)) i s ≡ (get_or (d ∷ ds) i d).now =
+    get_or-map (λ (y : Bor (List ℕ)). y.now) (d ∷ ds) i d s bound in
     (λ _. (i, simp length-map bound, at ∙ same), λ _. refl)
 found_in_table table s (Err i) up bound h =
-    let split = h (searchable_from_sorted nat_list_cmp_total (λ (y : Bor (List ℕ)). y.now) table s (sorted_from_rises _ table up)) in
-    let none : All (λ (y : Bor (List ℕ)). y.now ≢ s) table = none_at_split table s i split in
-    (λ e. cc, λ member. absurd (All-contains (λ w. w ≢ s) _ s (All-map (λ w. w ≢ s) (λ (y : Bor (List ℕ)). y.now) table none) member refl))
+    let split = h (searchable_from_sorted nat_list_cmp_total (λ (y : Bor (List ℕ)). y.now) table s (sorted_from_rises _ table up))
+    in
+    let none : All (λ (y : Bor (List ℕ)). y.now ≢ s) table = none_at_split table s i split in (
+      λ e. cc,
+      λ member. absurd (All-contains (λ w. w ≢ s) _ s (All-map (λ w. w ≢ s) (λ (y : Bor (List ℕ)). y.now) table none)
+          member refl),
+    )

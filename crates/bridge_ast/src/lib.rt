@@ -7,6 +7,7 @@ pub mod attrs;
 mod clones;
 pub mod docs;
 pub mod enums;
+pub mod environment;
 pub mod functions;
 pub mod idents;
 pub mod lifetimes;

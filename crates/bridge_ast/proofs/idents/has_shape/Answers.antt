@@ -13,5 +13,6 @@ returns-then-may_start c =
     let e = sym c.chars-chars.ensures.rest ∙ split in
     let rest = c.next.new.self.rest.now in
     let utf8 : IsUtf8 rest = IsUtf8-past_char c.args.s.now rest c.in-Some.first c.utf8.s e in
-    let all = all_from_yields_List is_xid_continue _ _ c.all.result c.all.ensures.ran (YieldsList-from_chars rest utf8 cc) (λ x b q k. search (rules, tests)) in
+    let all = all_from_yields_List is_xid_continue _ _ c.all.result c.all.ensures.ran (YieldsList-from_chars rest utf8 cc)
+    (λ x b q k. search (rules, tests)) in
     shaped c.args.s.now rest c.in-Some.first c.all.result c.utf8.s e (c.may_start.ensures.0 c.if-may_start.true) all

@@ -1,0 +1,12 @@
+use Rattle.std.proofs.Common.{List}
+use Rattle.bridge_ast.specs.declared.modules.Module.{Module}
+use Rattle.bridge_ast.specs.AliasEnds.{KnowsEnds}
+use Rattle.bridge_ast.specs.Scopes.{Knows}
+use Rattle.bridge_ast.specs.Walks.{IsModule}
+use Rattle.bridge_ast.proofs.AdvanceLemmas.{HasCome}
+use Rattle.bridge_ast.proofs.environment.walk.follow.Given as goal
+
+abbrev pub invariant-loop-segment : goal.invariant-loop-segment
+invariant-loop-segment l =
+    (modules : List Module) → Knows l.scopes modules → KnowsEnds l.ends modules → IsModule modules l.number
+    → HasCome modules l.number l.segments l.segment-index l.walk

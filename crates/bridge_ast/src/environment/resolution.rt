@@ -1,0 +1,133 @@
+//! What paths name in an environment.
+
+ghost use Rattle.std.specs.Prelude.{◌≡◌, ◌<◌, ◌↔◌, ℕ, List, length, None, Some, option_and_then};
+ghost use Rattle.std.specs.Option.{option_copied};
+ghost use Rattle.bridge_ast.specs.declared.environment.walk.ItemPlace.{ItemPlace};
+ghost use Rattle.bridge_ast.specs.declared.modules.Item.{Item};
+ghost use Rattle.bridge_ast.specs.declared.traits.Trait.{Trait};
+ghost use Rattle.bridge_ast.specs.Paths.{NamesItem};
+ghost use Rattle.bridge_ast.specs.Resolution.{named_item};
+ghost use Rattle.bridge_ast.specs.Types.{NamesType, NamesTrait, item_of, as_type, as_trait, type_seen, trait_seen, named_type, named_trait};
+
+use super::Env;
+use super::walk::{ItemPlace, Stand, follow};
+use crate::enums::Enum;
+use crate::modules::{Item, Module};
+use crate::paths::PathType;
+use crate::structs::{OpaqueType, Struct};
+use crate::traits::Trait;
+use sqlite_items::at;
+
+/// A type of an environment, with its place.
+#[derive(Clone, Copy)]
+pub enum CustomType<'e> {
+    /// A struct or an out-struct.
+    Struct(&'e Struct, ItemPlace),
+    /// An opaque.
+    Opaque(&'e OpaqueType, ItemPlace),
+    /// An enum.
+    Enum(&'e Enum, ItemPlace),
+}
+
+/// A trait of an environment, with its place.
+#[derive(Clone, Copy)]
+pub struct TraitAt<'e> {
+    /// The trait.
+    pub decl: &'e Trait,
+    /// Its place.
+    pub place: ItemPlace,
+}
+
+/// The item at a place.
+fn item_at(modules: &[Module], place: ItemPlace) -> Option<&Item>
+    ensures { option_copied result ≡ item_of modules.now place }
+{
+    at(at(modules, place.module)?.items.as_slice(), place.item)
+}
+
+/// The struct, opaque or enum at a place.
+fn type_at(modules: &[Module], place: ItemPlace) -> Option<CustomType<'_>>
+    ensures { type_seen result ≡ option_and_then (as_type place) (item_of modules.now place) }
+{
+    match item_at(modules, place)? {
+        Item::Struct(item) => Some(CustomType::Struct(item, place)),
+        Item::Opaque(item) => Some(CustomType::Opaque(item, place)),
+        Item::Enum(item) => Some(CustomType::Enum(item, place)),
+        Item::Trait(_) | Item::Function(_) => None,
+    }
+}
+
+/// The trait at a place.
+fn trait_at(modules: &[Module], place: ItemPlace) -> Option<TraitAt<'_>>
+    ensures { trait_seen result ≡ option_and_then (as_trait place) (item_of modules.now place) }
+{
+    match item_at(modules, place)? {
+        Item::Trait(decl) => Some(TraitAt { decl, place }),
+        Item::Struct(_) | Item::Opaque(_) | Item::Enum(_) | Item::Function(_) => None,
+    }
+}
+
+impl Env {
+    /// The item that a path names, read in the module of a number.
+    fn find_item(&self, in_module: usize, path: &PathType) -> Option<ItemPlace>
+        requires { in_module < length self.now }
+        ensures { result ≡ named_item self.now in_module path.now.segments }
+    {
+        let segments = path.segments.as_slice();
+        let most = self.aliases as u128 + segments.len() as u128;
+        let walk = follow(self.scopes.as_slice(), &self.ends, in_module, segments)?;
+        if walk.steps > most {
+            return None;
+        }
+        match walk.stand {
+            Stand::Item(place) => Some(place),
+            Stand::Module(_, _) => None,
+        }
+    }
+
+    /// The struct, opaque or enum that a path names, read in the module of a number; none where it names nothing of these
+    /// kinds.
+    ///
+    /// Paths are read as the Rust Reference says: a first segment `crate` leads to the root, `self` to the module itself, and
+    /// each `super` at the start or after these to the parent, which the root has not. Each other segment is the name of a
+    /// submodule, of an alias, or of an item, which stands last. An alias is replaced by its target, and the path that comes of
+    /// it is read in the alias's module. As many aliases are followed as there are in the environment and segments in the path.
+    pub fn resolve(&self, in_module: usize, path: &PathType) -> Option<CustomType<'_>>
+        requires { in_module < length self.now }
+        ensures named { (item : Item) (place : ItemPlace) → (type_seen result ≡ Some (item, place))
+            ↔ NamesType self.now in_module path.now.segments item place }
+        ensures nothing { (result ≡ None)
+            ↔ ((item : Item) (place : ItemPlace) → ¬ NamesType self.now in_module path.now.segments item place) }
+        ensures computed { type_seen result ≡ named_type self.now in_module path.now.segments }
+    {
+        let modules = self.modules.as_slice();
+        let place = self.find_item(in_module, path)?;
+        type_at(modules, place)
+    }
+
+    /// The trait that a path names, read in the module of a number; none where it names nothing or an item of another kind.
+    /// Paths are read as by [`Env::resolve`].
+    pub fn resolve_trait(&self, in_module: usize, path: &PathType) -> Option<TraitAt<'_>>
+        requires { in_module < length self.now }
+        ensures named { (decl : Trait) (place : ItemPlace) → (trait_seen result ≡ Some (decl, place))
+            ↔ NamesTrait self.now in_module path.now.segments decl place }
+        ensures nothing { (result ≡ None)
+            ↔ ((decl : Trait) (place : ItemPlace) → ¬ NamesTrait self.now in_module path.now.segments decl place) }
+        ensures computed { trait_seen result ≡ named_trait self.now in_module path.now.segments }
+    {
+        let modules = self.modules.as_slice();
+        let place = self.find_item(in_module, path)?;
+        trait_at(modules, place)
+    }
+
+    /// Paths name what the Rust Reference says, case by case, and one item at most. The cases hold of a place exactly where it is
+    /// the one that is computed along the path. The call does nothing: its contract is the law.
+    pub fn names_as_in_the_reference(&self)
+        ensures cases { (number : ℕ) (path : List (List ℕ)) (place : ItemPlace) → number < length self.now
+            → (named_item self.now number path ≡ Some place) ↔ NamesItem self.now number path place }
+        ensures once { (number : ℕ) (path : List (List ℕ)) (one other : ItemPlace) → NamesItem self.now number path one
+            → NamesItem self.now number path other → one ≡ other }
+    {
+        let _ = &self.modules;
+    }
+}

@@ -1,0 +1,7 @@
+mod chains;
+mod compared;
+mod declared;
+mod lifetimes;
+mod names;
+mod paths;
+mod plain;
