@@ -22,7 +22,7 @@ use Rattle.bridge_ast.specs.declared.environment.walk.Next.TheVariants as next
 use Rattle.bridge_ast.specs.declared.environment.walk.Stand.TheVariants as stand
 use Rattle.bridge_ast.specs.declared.environment.walk.Walk.{Walk}
 use Rattle.bridge_ast.specs.AliasEnds.{IsAlias, AreEnds, KnowsEnds, AliasAdvances, Advances, alias_leads, waits_at}
-use Rattle.bridge_ast.specs.Bounds.{pair_cmp}
+use Rattle.bridge_ast.specs.Pairs.{pair_cmp}
 use Rattle.bridge_ast.specs.Each.{each_after}
 use Rattle.bridge_ast.specs.EnvFaults.{Named, module_at, named_at, part_named, parent_and_last}
 use Rattle.bridge_ast.specs.Names.{item_name}

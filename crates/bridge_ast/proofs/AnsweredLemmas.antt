@@ -1,10 +1,14 @@
--- What the sets of bounds say of a node.
-use Rattle.std.proofs.Common.{◌≡◌, ℕ, Bool, true, false, List, [], refl, sym, ap, ◌∙◌, IsTrue, ◌↔◌, nat_le, nat_eq, ◌||◌, ◌&&◌}
-use Rattle.std.proofs.Common.{length, not, subst, None, Result}
+-- What the lists of bounds say of a node.
+use Rattle.std.proofs.Common.{◌≡◌, ℕ, ◌<◌, ◌≤◌, Bool, true, false, List, [], refl, sym, ap, ◌∙◌, arith, IsTrue, ◌↔◌, nat_le, nat_eq, ◌||◌, ◌&&◌}
+use Rattle.std.proofs.Common.{length, get_or, subst, inl, inr, not, None, Result, Ok, Err, is_ok}
+use Rattle.std.specs.Result.{MatchResult}
 use Rattle.std.specs.List.{Contains, list_all}
-use Rattle.std.specs.BTreeSet.{BTreeSet, contains}
+use Rattle.std.specs.List.Sorted.{IsNonDecreasing, IsBinarySearchResult}
+use Rattle.std.specs.Ordering.{nat_cmp}
 use Rattle.std.specs.Cmp.{nat_eq_equiv}
-use Rattle.std.proofs.lemmas.Bool.{eqb-true}
+use Rattle.std.proofs.lemmas.Bool.{eqb-true, cases_lt}
+use Rattle.std.proofs.lemmas.List.{get_or_default}
+use Rattle.std.proofs.lemmas.List.Sorted.{searched}
 use Rattle.std.proofs.lemmas.Map.Views.{list_any-from_Contains, Contains-from_any}
 use Rattle.bridge_ast.specs.declared.lifetimes.LifetimeNode.{LifetimeNode}
 use Rattle.bridge_ast.specs.declared.environment.bounds.Side.{Side}
@@ -13,7 +17,8 @@ use Rattle.bridge_ast.specs.declared.environment.fault.EnvFault.{EnvFault}
 use Rattle.bridge_ast.specs.declared.environment.fault.EnvFault.TheVariants.{Bad}
 use Rattle.bridge_ast.specs.declared.environment.fault.EnvFaultKind.TheVariants.{BoundOutOfRange, BoundOneSided}
 use Rattle.bridge_ast.specs.declared.environment.fault.EnvPlace.{EnvPlace}
-use Rattle.bridge_ast.specs.Bounds.{HasPair, pair_cmp, has_number, listed, listed_at, opposite_of, in_range, answered}
+use Rattle.bridge_ast.specs.Bounds.{has_number, listed, listed_at, opposite_of, in_range, answered}
+use Rattle.bridge_ast.specs.BoundLists.{AreListers}
 use Rattle.bridge_ast.specs.EnvFaults.{IsFirst, Tells, where_so, bound_faults}
 use Rattle.bridge_ast.proofs.EachLemmas.{tells_after, first_front}
 
@@ -32,18 +37,32 @@ has n numbers = (Contains-from_any nat_same n numbers, list_any-from_Contains na
 list_all-same : (p q : ℕ → Bool) (xs : List ℕ) → ((x : ℕ) → p x ≡ q x) → list_all p xs ≡ list_all q xs
 list_all-same p q xs same = ap (λ r. list_all r xs) (λ i x. same x i)
 
-pub answered_by : (pairs : BTreeSet (ℕ × ℕ)) (side : Side) (nodes : List LifetimeNode) (count number : ℕ) (numbers : List ℕ)
-    → count ≡ length nodes
-    → ((from to : ℕ) → HasPair pairs from to ↔ Contains (listed_at side nodes from) to)
-    → list_all (λ to. nat_le count to || contains pair_cmp pairs (to, number)) numbers ≡ list_all
-    (λ to. nat_le (length nodes) to || has_number number (listed_at side nodes to)) numbers
-answered_by pairs side nodes count number numbers counted has_pairs =
-    list_all-same _ _ numbers
-    (λ to. ap (λ n. nat_le n to || contains pair_cmp pairs (to, number)) counted
-    ∙ ap (λ b. nat_le (length nodes) to || b)
-    (same_bool (contains pair_cmp pairs (to, number)) (has_number number (listed_at side nodes to))
-    (λ h. (has number (listed_at side nodes to)).1 ((has_pairs to number).0 h))
-    (λ h. (has_pairs to number).1 ((has number (listed_at side nodes to)).0 h))))
+-- ---- what a search of an ascending list finds
+
+abbrev Found : List ℕ → ℕ → Result ℕ ℕ → Type 0
+Found xs x r = MatchResult r (λ i. (i < length xs) × (get_or xs i 0 ≡ x))
+    (λ i. (i ≤ length xs) × ((k : ℕ) → k < i → get_or xs k 0 < x) × ((k : ℕ) → i ≤ k → k < length xs → x < get_or xs k 0))
+
+not_there : (xs : List ℕ) (x i : ℕ) → ((k : ℕ) → k < i → get_or xs k 0 < x)
+    → ((k : ℕ) → i ≤ k → k < length xs → x < get_or xs k 0) → Contains xs x → ⊥
+not_there xs x i below above (k, within, at) =
+    let here : get_or xs k 0 ≡ x = get_or_default xs k 0 x within ∙ at in
+    elim (cases_lt k i) [
+      | inl lower ↦ (let e = below k lower in omega arith)
+      | inr higher ↦ (let e = above k higher within in omega arith)
+    ]
+
+found_is : (xs : List ℕ) (x : ℕ) (r : Result ℕ ℕ) → Found xs x r → is_ok r ≡ has_number x xs
+found_is xs x (Ok i) (within, at) = sym ((has x xs).1 (i, within, sym (get_or_default xs i 0 x within) ∙ at))
+found_is xs x (Err i) (_, below, above) =
+    same_bool false (has_number x xs) (λ e. absurd cc)
+    (λ there. absurd (not_there xs x i below above ((has x xs).0 there)))
+
+pub search_finds : (xs : List ℕ) (x : ℕ) (r : Result ℕ ℕ) (b : Bool) → b ≡ is_ok r → IsBinarySearchResult (λ y. nat_cmp y x) xs r
+    → IsNonDecreasing xs → b ≡ has_number x xs
+search_finds xs x r b is finds ascend = is ∙ found_is xs x r (searched xs x r finds (λ i j up within. ascend i j 0 up within))
+
+-- ---- what the lists of a node answer
 
 pub both_of : (a b c d : Bool) → a ≡ c → b ≡ d → a ≡ true → b ≡ c && d
 both_of a b c d same other is = other ∙ ap (λ x. x && d) (sym is ∙ same)
@@ -51,15 +70,28 @@ both_of a b c d same other is = other ∙ ap (λ x. x && d) (sym is ∙ same)
 pub neither_of : (a c d : Bool) → a ≡ c → a ≡ false → a ≡ c && d
 neither_of a c d same is = is ∙ ap (λ x. x && d) (sym is ∙ same)
 
--- what the sets say of a node's numbers on a side
-pub answered_on : (side : Side) (r : Bool) (pairs : BTreeSet (ℕ × ℕ)) (nodes : List LifetimeNode) (count number : ℕ)
-    (numbers : List ℕ) (node : LifetimeNode)
-    → r ≡ list_all (λ to. nat_le count to || contains pair_cmp pairs (to, number)) numbers → numbers ≡ listed side node
-    → count ≡ length nodes
-    → ((from to : ℕ) → HasPair pairs from to ↔ Contains (listed_at (opposite_of side) nodes from) to)
-    → r ≡ answered side nodes number node
-answered_on side r pairs nodes count number numbers node is these counted has_pairs =
-    is ∙ answered_by pairs (opposite_of side) nodes count number numbers counted has_pairs
+-- what its list on a side says of the numbers that it lists on the other
+pub answered_by : (side : Side) (nodes : List LifetimeNode) (lists : List (List ℕ)) (listers : List ℕ) (count number : ℕ)
+    (numbers : List ℕ) → count ≡ length nodes → number < length nodes → listers ≡ get_or lists number []
+    → AreListers side nodes lists → list_all (λ to. nat_le count to || has_number to listers) numbers
+    ≡ list_all (λ to. nat_le (length nodes) to || has_number number (listed_at side nodes to)) numbers
+answered_by side nodes lists listers count number numbers counted within are h =
+    list_all-same _ _ numbers
+    (λ to. let these = h.has to number within in
+    ap (λ n. nat_le n to || has_number to listers) counted
+    ∙ ap (λ b. nat_le (length nodes) to || b)
+    (same_bool (has_number to listers) (has_number number (listed_at side nodes to))
+    (λ e. (has number (listed_at side nodes to)).1 (these.0 (subst (λ z. Contains z to) are ((has to listers).0 e))))
+    (λ e. (has to listers).1 (subst (λ z. Contains z to) (sym are) (these.1 ((has number (listed_at side nodes to)).0 e))))))
+
+pub answered_on : (side : Side) (r : Bool) (nodes : List LifetimeNode) (lists : List (List ℕ)) (listers : List ℕ)
+    (count number : ℕ) (numbers : List ℕ) (node : LifetimeNode)
+    → (IsNonDecreasing listers → r ≡ list_all (λ to. nat_le count to || has_number to listers) numbers)
+    → numbers ≡ listed side node → count ≡ length nodes → number < length nodes → listers ≡ get_or lists number []
+    → AreListers (opposite_of side) nodes lists → r ≡ answered side nodes number node
+answered_on side r nodes lists listers count number numbers node is these counted within are h =
+    is (subst IsNonDecreasing (sym are) (h.ascends number))
+    ∙ answered_by (opposite_of side) nodes lists listers count number numbers counted within are h
     ∙ ap (list_all (λ to. nat_le (length nodes) to || has_number number (listed_at (opposite_of side) nodes to))) these
 
 module _ {X : Type 0} (r : Result X EnvFault) (here : EnvPlace) (nodes : List LifetimeNode) (number : ℕ) (node : LifetimeNode)

@@ -13,12 +13,12 @@ use Rattle.bridge_ast.specs.declared.environment.walk.ItemPlace.{ItemPlace}
 use Rattle.bridge_ast.specs.declared.environment.walk.Stand.TheVariants as stand
 use Rattle.bridge_ast.specs.declared.environment.walk.Walk.{Walk}
 use Rattle.bridge_ast.specs.AliasEnds.{IsAlias, IsEnd, LeadsNowhere, Advances, alias_leads, waits_at}
-use Rattle.bridge_ast.specs.Bounds.{HasPair, pair_cmp}
+use Rattle.bridge_ast.specs.Pairs.{HasPair, pair_cmp}
 use Rattle.bridge_ast.specs.Resolution.{target_at}
 use Rattle.bridge_ast.specs.Searches.{IsFrame, IsLater, IsWaiting}
 use Rattle.bridge_ast.specs.Walks.{after_taking, carried_on, IsInside, IsModule}
 use Rattle.bridge_ast.proofs.AdvanceLemmas.{ahead}
-use Rattle.bridge_ast.proofs.BoundsLemmas.{pair_more}
+use Rattle.bridge_ast.proofs.PairLemmas.{pair_more}
 use Rattle.bridge_ast.proofs.EachLemmas.{length_front}
 use Rattle.bridge_ast.proofs.StepLemmas.{taking_adds}
 use Rattle.bridge_ast.proofs.WalkLemmas.{begun}

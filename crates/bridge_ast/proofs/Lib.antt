@@ -9,6 +9,7 @@ pub mod ItemLemmas
 pub mod ModuleLemmas
 pub mod NamedLemmas
 pub mod NodeLemmas
+pub mod PairLemmas
 pub mod PathLemmas
 pub mod PathNameLemmas
 pub mod PlainLemmas

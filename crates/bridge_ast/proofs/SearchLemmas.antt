@@ -13,10 +13,10 @@ use Rattle.bridge_ast.specs.declared.modules.Module.{Module}
 use Rattle.bridge_ast.specs.declared.environment.alias_ends.Frame.{Frame}
 use Rattle.bridge_ast.specs.declared.environment.walk.Walk.{Walk}
 use Rattle.bridge_ast.specs.AliasEnds.{IsAlias, IsEnd, LeadsNowhere, KnowsEnds, alias_leads}
-use Rattle.bridge_ast.specs.Bounds.{pair_cmp}
+use Rattle.bridge_ast.specs.Pairs.{pair_cmp}
 use Rattle.bridge_ast.specs.Searches.{IsFrame, WaitsFor, IsOn, IsStack, Has, IsSearch, IsWaiting}
 use Rattle.bridge_ast.specs.Walks.{IsInside}
-use Rattle.bridge_ast.proofs.BoundsLemmas.{pair_itself}
+use Rattle.bridge_ast.proofs.PairLemmas.{pair_itself}
 
 -- ---- aliases that wait for one another
 

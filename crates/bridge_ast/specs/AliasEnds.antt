@@ -7,7 +7,7 @@ use Rattle.bridge_ast.specs.declared.environment.walk.ItemPlace.{ItemPlace}
 use Rattle.bridge_ast.specs.declared.environment.walk.Walk.{Walk}
 use Rattle.bridge_ast.specs.declared.environment.walk.Advance.{Advance}
 use Rattle.bridge_ast.specs.declared.environment.walk.Advance.TheVariants.{Comes, Waits, Stops}
-use Rattle.bridge_ast.specs.Bounds.{pair_cmp}
+use Rattle.bridge_ast.specs.Pairs.{pair_cmp}
 use Rattle.bridge_ast.specs.Resolution.{again_within, target_at}
 use Rattle.bridge_ast.specs.Walks.{after_taking, carried_on, IsInside}
 

@@ -1,9 +1,6 @@
 -- The bounds between lifetimes, as the nodes of an environment list them on either side.
-use Rattle.std.specs.Prelude.{ℕ, List, [], map, slice_index_or, length, Bool, ◌||◌, nat_eq, nat_le, nat_lt, IsTrue}
-use Rattle.std.specs.declared.cmp.Ordering.{Ordering}
+use Rattle.std.specs.Prelude.{ℕ, List, [], map, slice_index_or, length, Bool, ◌||◌, nat_eq, nat_le, nat_lt}
 use Rattle.std.specs.List.{list_any, list_all}
-use Rattle.std.specs.Ordering.{nat_cmp, ordering_then}
-use Rattle.std.specs.BTreeSet.{BTreeSet, contains}
 use Rattle.bridge_ast.specs.declared.lifetimes.LifetimeNode.{LifetimeNode}
 use Rattle.bridge_ast.specs.declared.environment.bounds.Side.{Side}
 use Rattle.bridge_ast.specs.declared.environment.bounds.Side.TheVariants.{Longer, Shorter}
@@ -34,11 +31,3 @@ has_number number numbers = list_any (nat_eq number) numbers
 abbrev pub answered : Side → List LifetimeNode → ℕ → LifetimeNode → Bool
 answered side nodes number node =
     list_all (λ to. nat_le (length nodes) to || has_number number (listed_at (opposite_of side) nodes to)) (listed side node)
-
--- pairs in order, by their first parts and then by their second parts
-abbrev pub pair_cmp : ℕ × ℕ → ℕ × ℕ → Ordering
-pair_cmp one other = ordering_then (nat_cmp one.0 other.0) (nat_cmp one.1 other.1)
-
--- the set has the pair
-abbrev pub HasPair : BTreeSet (ℕ × ℕ) → ℕ → ℕ → Type 0
-HasPair pairs from to = IsTrue (contains pair_cmp pairs (from, to))

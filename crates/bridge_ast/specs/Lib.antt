@@ -1,6 +1,6 @@
 pub mod AliasCount
 pub mod AliasEnds
-pub mod BoundSets
+pub mod BoundLists
 pub mod Bounds
 pub mod Each
 pub mod EnvFaults
@@ -9,6 +9,7 @@ pub mod Environments
 pub mod Ident
 pub mod Index
 pub mod Names
+pub mod Pairs
 pub mod Paths
 pub mod Rename
 pub mod Resolution

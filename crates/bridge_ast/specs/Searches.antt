@@ -10,7 +10,7 @@ use Rattle.bridge_ast.specs.declared.environment.alias_ends.Progress.{Progress}
 use Rattle.bridge_ast.specs.declared.environment.alias_ends.Progress.TheVariants.{Ends, Waits, Stops}
 use Rattle.bridge_ast.specs.declared.environment.alias_ends.Search.{Search}
 use Rattle.bridge_ast.specs.AliasEnds.{IsAlias, IsEnd, LeadsNowhere, AreEnds, alias_leads}
-use Rattle.bridge_ast.specs.Bounds.{pair_cmp}
+use Rattle.bridge_ast.specs.Pairs.{pair_cmp}
 use Rattle.bridge_ast.specs.Resolution.{target_at}
 use Rattle.bridge_ast.specs.Walks.{carried_on, IsInside}
 

@@ -3,7 +3,7 @@
 ghost use Rattle.std.specs.Prelude.{◌≡◌, ◌≤◌, ◌<◌, ◌+◌, ◌↔◌, ◌⊎◌, ℕ, List, [], ◌∷◌, ◌++◌, OnOk, IfOk, IfNone, IfSome};
 ghost use Rattle.bridge_ast.specs.declared.modules.Module.{Module};
 ghost use Rattle.bridge_ast.specs.AliasEnds.{AreEnds, KnowsEnds, IsAlias};
-ghost use Rattle.bridge_ast.specs.Bounds.{HasPair};
+ghost use Rattle.bridge_ast.specs.Pairs.{HasPair};
 ghost use Rattle.bridge_ast.specs.Scopes.{Knows};
 ghost use Rattle.bridge_ast.specs.Searches.{IsFrame, IsSearch, IsWaiting, Progresses, size_of};
 

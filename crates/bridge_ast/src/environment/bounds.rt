@@ -1,19 +1,20 @@
 //! Bounds between lifetimes, which have to stand at both of their ends.
 
-ghost use Rattle.std.specs.Prelude.{◌≡◌, ℕ, List, length, nat_lt, nat_le, ◌||◌, ◌&&◌, not, None, OnOk, IfOk, ◌↔◌, ◌⊎◌};
-ghost use Rattle.std.specs.List.{Contains, list_all};
-ghost use Rattle.std.specs.BTreeSet.{contains};
+ghost use Rattle.std.specs.Prelude.{◌≡◌, ℕ, List, [], ◌∷◌, ◌++◌, ◌<◌, length, nat_lt, nat_le, ◌||◌, ◌&&◌, not, None};
+ghost use Rattle.std.specs.Prelude.{slice_index_or, slice_set, IfOk, OnOk};
+ghost use Rattle.std.specs.List.{list_all};
+ghost use Rattle.std.specs.List.Sorted.{IsNonDecreasing};
 ghost use Rattle.bridge_ast.specs.declared.lifetimes.LifetimeNode.{LifetimeNode};
 ghost use Rattle.bridge_ast.specs.declared.environment.bounds.Side.TheVariants.{Longer, Shorter};
-ghost use Rattle.bridge_ast.specs.Bounds.{listed, listed_at, in_range, answered, HasPair, pair_cmp};
-ghost use Rattle.bridge_ast.specs.BoundSets.{HasBounds};
+ghost use Rattle.bridge_ast.specs.Bounds.{listed, in_range, answered, has_number};
+ghost use Rattle.bridge_ast.specs.BoundLists.{AddsToEach, AreListers, HasBounds};
 ghost use Rattle.bridge_ast.specs.EnvFaults.{Tells, bound_faults, where_so};
 
 use super::fault::{EnvFault, EnvFaultKind, EnvPlace};
 use crate::lifetimes::LifetimeNode;
 use crate::text::NoMemory;
+use sqlite_items::Items;
 use std::alloc::Global;
-use std::collections::BTreeSet;
 
 /// A side of a lifetime on which it lists its bounds.
 #[derive(Clone, Copy)]
@@ -36,29 +37,84 @@ impl Side {
     }
 }
 
-/// Pairs of a lifetime and one that it lists on a side.
-type Pairs = BTreeSet<(usize, usize)>;
-
-/// Adds the pairs of one lifetime with each that it lists. A number that is listed twice makes one pair.
-fn add_listed(pairs: &mut Pairs, from: usize, listed: &[usize]) -> Result<(), NoMemory>
-    ensures { OnOk result ((first second : ℕ) → HasPair pairs.new first second ↔ (HasPair pairs.old first second
-        ⊎ ((first ≡ from) × Contains listed.now second))) }
+/// As many empty lists as the count.
+fn empty_lists(alloc: Global, count: usize) -> Result<Vec<Items<usize>>, NoMemory>
+    ensures count { IfOk result (λ lists. length lists.items ≡ count) }
+    ensures empty { IfOk result (λ lists. (at : ℕ) → slice_index_or lists.items at [] ≡ []) }
 {
-    for to in listed {
-        pairs.insert((from, *to))?;
+    let mut lists = Vec::new(alloc);
+    for _ in 0..count {
+        lists.push(Items::new(alloc))?;
+    }
+    Ok(lists)
+}
+
+/// Adds a number to the end of one of the lists. A place from their count on is that of no list.
+fn add_to(lists: &mut [Items<usize>], place: usize, number: usize) -> Result<(), NoMemory>
+    ensures { OnOk result (lists.new ≡ slice_set lists.old place (slice_index_or lists.old place [] ++ number ∷ [])) }
+{
+    if place < lists.len() {
+        lists[place].push(number)?;
     }
     Ok(())
 }
 
-/// The pairs of each lifetime with each that it lists on the side.
-fn pairs_of(alloc: Global, side: Side, nodes: &[LifetimeNode]) -> Result<Pairs, NoMemory>
-    ensures { IfOk result (λ pairs. (from to : ℕ) → HasPair pairs from to ↔ Contains (listed_at side nodes.now from) to) }
+/// Adds a number to the end of each of the lists that stand at the places.
+fn add_to_each(lists: &mut [Items<usize>], places: &[usize], number: usize) -> Result<(), NoMemory>
+    ensures { OnOk result (AddsToEach lists.old lists.new places.now number) }
 {
-    let mut pairs = BTreeSet::new(alloc);
-    for (from, node) in nodes.iter().enumerate() {
-        add_listed(&mut pairs, from, side.of(node))?;
+    for place in places {
+        add_to(lists, *place, number)?;
     }
-    Ok(pairs)
+    Ok(())
+}
+
+/// Adds the number of each lifetime to the lists of those that it lists on the side.
+fn add_listers(
+    lists: &mut [Items<usize>],
+    side: Side,
+    nodes: &[LifetimeNode],
+) -> Result<(), NoMemory>
+    requires count { length lists.old ≡ length nodes.now }
+    requires empty { (at : ℕ) → slice_index_or lists.old at [] ≡ [] }
+    ensures { OnOk result (AreListers side nodes.now lists.new) }
+{
+    for (from, node) in nodes.iter().enumerate() {
+        add_to_each(lists, side.of(node), from)?;
+    }
+    Ok(())
+}
+
+/// For each lifetime the numbers of those that list it on the side, in ascending order.
+fn listers_of(
+    alloc: Global,
+    side: Side,
+    nodes: &[LifetimeNode],
+) -> Result<Vec<Items<usize>>, NoMemory>
+    ensures { IfOk result (λ listers. AreListers side nodes.now listers.items) }
+{
+    let mut listers = empty_lists(alloc, nodes.len())?;
+    add_listers(listers.as_mut_slice(), side, nodes)?;
+    Ok(listers)
+}
+
+/// The bounds of an environment of lifetimes, to be looked up.
+#[derive(Drop)]
+pub struct BoundLists {
+    count: usize,
+    longer: Items<Items<usize>>,
+    shorter: Items<Items<usize>>,
+}
+
+/// The bounds that the lifetimes list.
+pub fn bound_lists(alloc: Global, nodes: &[LifetimeNode]) -> Result<BoundLists, NoMemory>
+    ensures { IfOk result (λ bounds. HasBounds bounds nodes.now) }
+{
+    Ok(BoundLists {
+        count: nodes.len(),
+        longer: Items::from_vec(listers_of(alloc, Side::Longer, nodes)?),
+        shorter: Items::from_vec(listers_of(alloc, Side::Shorter, nodes)?),
+    })
 }
 
 /// Whether each number is below the count.
@@ -68,32 +124,34 @@ fn are_below(count: usize, numbers: &[usize]) -> bool
     numbers.iter().all(|number| *number < count)
 }
 
-/// Whether each of the listed lifetimes makes a pair with the one that lists it. A number from the count on is no lifetime.
-fn are_answered(pairs: &Pairs, count: usize, from: usize, listed: &[usize]) -> bool
-    ensures { result ≡ list_all (λ to. nat_le count to || contains pair_cmp pairs.now (to, from)) listed.now }
+/// Whether the numbers, which ascend, have this one.
+fn ascending_has(numbers: &[usize], number: usize) -> bool
+    ensures { IsNonDecreasing numbers.now → result ≡ has_number number numbers.now }
 {
-    listed
-        .iter()
-        .all(|to| *to >= count || pairs.contains(&(*to, from)))
+    numbers.binary_search(&number).is_ok()
 }
 
-/// The bounds of an environment of lifetimes, to be looked up.
-#[derive(Drop)]
-pub struct BoundSets {
-    count: usize,
-    longer: Pairs,
-    shorter: Pairs,
+/// Whether each of the listed lifetimes is among the listers, which ascend. A number from the count on is no lifetime.
+fn are_answered(listers: &[usize], count: usize, listed: &[usize]) -> bool
+    ensures { IsNonDecreasing listers.now → result ≡ list_all (λ to. nat_le count to || has_number to listers.now) listed.now }
+{
+    for to in listed {
+        if *to < count && !ascending_has(listers, *to) {
+            return false;
+        }
+    }
+    true
 }
 
-/// The bounds that the lifetimes list.
-pub fn bound_sets(alloc: Global, nodes: &[LifetimeNode]) -> Result<BoundSets, NoMemory>
-    ensures { IfOk result (λ bounds. HasBounds bounds nodes.now) }
+/// The list of a number; an empty one where there is none.
+fn list_at(lists: &Items<Items<usize>>, number: usize) -> &[usize]
+    ensures { result.now ≡ slice_index_or lists.now number [] }
 {
-    Ok(BoundSets {
-        count: nodes.len(),
-        longer: pairs_of(alloc, Side::Longer, nodes)?,
-        shorter: pairs_of(alloc, Side::Shorter, nodes)?,
-    })
+    let lists = lists.as_slice();
+    if number < lists.len() {
+        return lists[number].as_slice();
+    }
+    &[]
 }
 
 /// The fault of a kind at a place, where something isn't so.
@@ -120,24 +178,27 @@ fn is_in_range(count: usize, node: &LifetimeNode) -> bool
 }
 
 /// Whether each bound that the lifetime of a number lists stands at its other end too.
-fn is_answered(bounds: &BoundSets, number: usize, node: &LifetimeNode) -> bool
-    ensures { (nodes : List LifetimeNode) → HasBounds bounds.now nodes → result
+fn is_answered(bounds: &BoundLists, number: usize, node: &LifetimeNode) -> bool
+    ensures { (nodes : List LifetimeNode) → HasBounds bounds.now nodes → number < length nodes → result
         ≡ (answered Longer nodes number node.now && answered
         Shorter nodes number node.now) }
 {
     let count = bounds.count;
-    are_answered(&bounds.shorter, count, number, node.longer.as_slice())
-        && are_answered(&bounds.longer, count, number, node.shorter.as_slice())
+    let longer = list_at(&bounds.longer, number);
+    let shorter = list_at(&bounds.shorter, number);
+    are_answered(shorter, count, node.longer.as_slice())
+        && are_answered(longer, count, node.shorter.as_slice())
 }
 
 /// Tests the bounds of the lifetime of a number, which stands at the place.
 pub fn test_bounds(
-    bounds: &BoundSets,
+    bounds: &BoundLists,
     at: EnvPlace,
     number: usize,
     node: &LifetimeNode,
 ) -> Result<(), EnvFault>
-    ensures { (nodes : List LifetimeNode) → HasBounds bounds.now nodes → Tells result (bound_faults at nodes number node.now) }
+    ensures { (nodes : List LifetimeNode) → HasBounds bounds.now nodes → number < length nodes
+        → Tells result (bound_faults at nodes number node.now) }
 {
     let in_range = is_in_range(bounds.count, node);
     needed(in_range, EnvFaultKind::BoundOutOfRange, at)?;

@@ -1,13 +1,13 @@
 //! The lifetimes that a declaration has of its own, by their names and bounds.
 
-ghost use Rattle.std.specs.Prelude.{◌≡◌, ℕ, List, [], ◌∷◌, ◌++◌, OnOk};
+ghost use Rattle.std.specs.Prelude.{◌≡◌, ℕ, List, [], ◌∷◌, ◌++◌, ◌<◌, length, OnOk};
 ghost use Rattle.bridge_ast.specs.declared.lifetimes.LifetimeNode.{LifetimeNode};
 ghost use Rattle.bridge_ast.specs.declared.environment.fault.EnvPart.TheVariants as part;
-ghost use Rattle.bridge_ast.specs.BoundSets.{HasBounds};
+ghost use Rattle.bridge_ast.specs.BoundLists.{HasBounds};
 ghost use Rattle.bridge_ast.specs.EnvFaults.{Named, Tells, place, repeats_name, bound_faults, lifetime_faults};
 ghost use Rattle.bridge_ast.specs.Index.{Indexes};
 
-use super::bounds::{BoundSets, bound_sets, test_bounds};
+use super::bounds::{BoundLists, bound_lists, test_bounds};
 use super::fault::{EnvFault, EnvFaultKind, EnvPart, EnvPlace};
 use super::names::{NameIndex, claim};
 use crate::lifetimes::LifetimeNode;
@@ -45,13 +45,13 @@ impl Owner {
 fn test_node(
     alloc: Global,
     names: &mut NameIndex,
-    bounds: &BoundSets,
+    bounds: &BoundLists,
     at: EnvPlace,
     number: usize,
     node: &LifetimeNode,
 ) -> Result<(), EnvFault>
     ensures told { (before : List Named) (nodes : List LifetimeNode) → Indexes names.old before → HasBounds bounds.now nodes
-        → Tells result (repeats_name EnvFaultKind.DuplicateLifetime at.«module» before node.now.name at.part
+        → number < length nodes → Tells result (repeats_name EnvFaultKind.DuplicateLifetime at.«module» before node.now.name at.part
         ++ bound_faults at nodes number node.now) }
     ensures kept { (before : List Named) → Indexes names.old before → OnOk result (Indexes names.new
         (before ++ (node.now.name, at.part) ∷ [])) }
@@ -70,7 +70,7 @@ fn test_node(
 pub fn test_lifetimes(alloc: Global, owner: Owner, nodes: &[LifetimeNode]) -> Result<(), EnvFault>
     ensures { Tells result (lifetime_faults owner.«module» owner.item owner.method nodes.now) }
 {
-    let bounds = bound_sets(alloc, nodes)?;
+    let bounds = bound_lists(alloc, nodes)?;
     let mut names = BTreeMap::new(alloc);
     for (number, node) in nodes.iter().enumerate() {
         test_node(

@@ -1,5 +1,5 @@
 use Rattle.std.proofs.Common.{◌≡◌, ◌<◌, ℕ, ◌↔◌, ◌⊎◌}
-use Rattle.bridge_ast.specs.Bounds.{HasPair}
+use Rattle.bridge_ast.specs.Pairs.{HasPair}
 use Rattle.bridge_ast.proofs.environment.alias_ends.add_aliases.Given as goal
 
 abbrev pub invariant-loop-number : goal.invariant-loop-number

@@ -1,6 +1,6 @@
 use Rattle.std.proofs.Common.{ℕ, ◌↔◌, take}
 use Rattle.bridge_ast.specs.AliasEnds.{IsAlias}
-use Rattle.bridge_ast.specs.Bounds.{HasPair}
+use Rattle.bridge_ast.specs.Pairs.{HasPair}
 use Rattle.bridge_ast.proofs.environment.alias_ends.all_aliases.Given as goal
 
 abbrev pub invariant-loop-number : goal.invariant-loop-number

@@ -15,7 +15,7 @@ returns-in_err-test_node c =
     c.in_err-test_node.field-0.0 c.loop-number-test.true c.index-nodes-number.is c.place_of.ensures
     c.loop-number.invariant.none
     (c.in_err-test_node.ensures.told (nodes_named owner.item owner.method (take i nodes)) nodes c.loop-number.invariant.names
-    c.in_ok-bounds.ensures))
+    c.in_ok-bounds.ensures c.loop-number-test.true))
 
 pub loop-number-preserved : goal.loop-number-preserved
 loop-number-preserved c =
@@ -31,5 +31,6 @@ loop-number-preserved c =
       none =
           node_kept owner.«module» owner.item owner.method nodes i c.index-nodes-number.result c.place_of.result
           c.loop-number-test.true c.index-nodes-number.is c.place_of.ensures c.loop-number.invariant.none
-          (c.in_ok-test_node.ensures.told before nodes c.loop-number.invariant.names c.in_ok-bounds.ensures);
+          (c.in_ok-test_node.ensures.told before nodes c.loop-number.invariant.names c.in_ok-bounds.ensures
+          c.loop-number-test.true);
     }
