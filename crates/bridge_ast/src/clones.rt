@@ -7,7 +7,7 @@ use sqlite_items::Items;
 use std::alloc::Global;
 
 /// A list of the copies that `clone` makes of the elements, where each is equal to its element.
-pub(crate) fn clone_items<T: Drop, F: Fn(&T, Global) -> Result<T, NoMemory>>(
+pub fn clone_items<T: Drop, F: Fn(&T, Global) -> Result<T, NoMemory>>(
     alloc: Global,
     items: &Items<T>,
     clone: F,
@@ -24,7 +24,7 @@ pub(crate) fn clone_items<T: Drop, F: Fn(&T, Global) -> Result<T, NoMemory>>(
 }
 
 /// The copy that `clone` makes of the value, if there is one, where it is equal to the value.
-pub(crate) fn clone_option<T: Drop, F: Fn(&T, Global) -> Result<T, NoMemory>>(
+pub fn clone_option<T: Drop, F: Fn(&T, Global) -> Result<T, NoMemory>>(
     alloc: Global,
     value: &Option<T>,
     clone: F,
@@ -40,7 +40,7 @@ pub(crate) fn clone_option<T: Drop, F: Fn(&T, Global) -> Result<T, NoMemory>>(
 }
 
 /// A copy of a list of texts, which is equal to the list.
-pub(crate) fn clone_texts(alloc: Global, texts: &Items<Text>) -> Result<Items<Text>, NoMemory>
+pub fn clone_texts(alloc: Global, texts: &Items<Text>) -> Result<Items<Text>, NoMemory>
     ensures { IfOk result (λ copies. copies ≡ texts.now) }
 {
     clone_items(alloc, texts, Text::try_clone)

@@ -4,7 +4,7 @@
 #![tactic(auto)]
 
 pub mod attrs;
-mod clones;
+pub mod clones;
 pub mod docs;
 pub mod enums;
 pub mod environment;
