@@ -1,0 +1,7 @@
+//! What a backend supports, and by which names the conditions of attributes find it.
+//!
+//! Named as in the crate `diplomat_core`, whose module `hir::attrs` this restates.
+#![tactic(auto)]
+
+pub mod support;
+pub mod validator;
