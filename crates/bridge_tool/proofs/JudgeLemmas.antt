@@ -1,5 +1,5 @@
 -- From the tests that failed to the rules that are broken.
-use Rattle.std.proofs.Common.{◌≡◌, ℕ, zero, suc, List, [], ◌∷◌, ◌++◌, map, get_or, Option, Some, refl, sym, subst, arith, inl, inr}
+use Rattle.std.proofs.Common.{◌≡◌, ℕ, zero, suc, ◌<◌, length, List, [], ◌∷◌, ◌++◌, map, get_or, Some, Err, refl, sym, subst, arith, inl, inr}
 use Rattle.std.specs.Prelude.{All, Contains}
 use Rattle.std.specs.List.{flat_map}
 use Rattle.std.proofs.lemmas.List.Concat.{flat_map-cons}
@@ -8,21 +8,26 @@ use Rattle.bridge_ast.specs.declared.methods.Method.{Method}
 use Rattle.bridge_ast.specs.declared.modules.Item.{Item}
 use Rattle.bridge_ast.specs.declared.modules.Module.{Module}
 use Rattle.bridge_ast.specs.Environments.{lifetime_names}
-use Rattle.bridge_ast.specs.Names.{item_name, path_text}
+use Rattle.bridge_ast.specs.Names.{item_name, Place}
 use Rattle.bridge_tool.specs.declared.rules.Rule.TheVariants as rule
-use Rattle.bridge_tool.specs.Breaks.{BreakNothing}
-use Rattle.bridge_tool.specs.Checks.{Check, name, path, lifetime, Fails, tested_in, tested_in_item, tested_in_method, method_checks, method_names, method_paths}
+use Rattle.bridge_tool.specs.Breaks.{Breaks, BreakNothing}
+use Rattle.bridge_tool.specs.Checks.{Check, name, path, lifetime, Fails, Tested, tested_at_number, tested_in, tested_in_module, tested_in_item, tested_in_method, method_checks, method_names, method_paths}
 use Rattle.bridge_tool.specs.Chosen.{Chosen}
-use Rattle.serde_json.specs.Data.{Data}
-use Rattle.serde_json.specs.Read.{read}
 use Rattle.bridge_tool.specs.declared.verdict.Verdict.{Verdict}
-use Rattle.bridge_tool.specs.declared.verdict.Verdict.TheVariants.{Declarations, NotJson, NotBuilt}
-use Rattle.bridge_tool.specs.Judging.{Judges, JudgesDeclarations}
+use Rattle.bridge_tool.specs.declared.verdict.Verdict.TheVariants.{Declarations, Faulty, NotBuilt}
+use Rattle.bridge_tool.specs.declared.read.fault.InputKind.{InputKind}
+use Rattle.bridge_tool.specs.declared.read.input.Input.{Input}
+use Rattle.bridge_tool.specs.declared.read.input.InputFault.{InputFault}
+use Rattle.bridge_tool.specs.declared.read.input.InputFault.TheVariants.{NotDeclarations}
+use Rattle.bridge_tool.specs.Built.{AreBuilt}
+use Rattle.bridge_tool.specs.Inputs.{IsReadAs, IsToldOf, SpellsInput}
+use Rattle.bridge_tool.specs.Judging.{Judges, JudgesModules}
+use Rattle.bridge_tool.specs.Lines.{arg_of, rule_of}
 use Rattle.bridge_tool.specs.Reports.{TestFails}
-use Rattle.bridge_tool.specs.Running.{Spells}
-use Rattle.bridge_tool.specs.Spelling.{Spelled, SpellsNothing, SpellsInput}
-use Rattle.bridge_tool.specs.Signature.{HasNamedMethods}
-use Rattle.bridge_tool.specs.Sound.{methods_of, AreSound}
+use Rattle.bridge_tool.specs.Signature.{HasNamedItems}
+use Rattle.bridge_tool.specs.Methods.{methods_of}
+use Rattle.bridge_tool.specs.Walking.{walk_order}
+use Rattle.bridge_tool.proofs.WalkLemmas.{all_walked, get_there}
 
 pub contains_first : {A : Type 0} (x : A) (xs : List A) → Contains (x ∷ xs) x
 contains_first x xs = (0, omega arith, refl)
@@ -50,63 +55,68 @@ chosen_none P (y ∷ ys) x (inr h) (zero, lt, is) = subst (λ z. ¬ (P z)) is h.
 chosen_none P (y ∷ ys) x (inr h) (suc k, lt, is) = chosen_none P ys x h.1 (k, omega arith, is)
 
 -- where no test fails no rule is broken
-pub keeps_rules : (root : Module) → Chosen (TestFails root.items) (tested_in root.items) [] → BreakNothing root
-keeps_rules root none rule.BadIdent place args broken =
-    chosen_none (TestFails root.items) (tested_in root.items) (record { item = place.item; method = place.method; check = name broken.name_there }) none broken.stands.0 broken.broken
-keeps_rules root none rule.UnresolvedPath place args broken =
-    chosen_none (TestFails root.items) (tested_in root.items) (record { item = place.item; method = place.method; check = path broken.path_there }) none broken.stands.0 broken.broken
-keeps_rules root none rule.LifetimeUnknown place args broken =
-    chosen_none (TestFails root.items) (tested_in root.items) (record { item = place.item; method = place.method; check = lifetime broken.env broken.used }) none broken.stands.0 broken.broken
+pub keeps_rules : (modules : List Module) → Chosen (TestFails modules) (tested_in modules) [] → BreakNothing modules
+keeps_rules modules none rule.BadIdent place args broken =
+    chosen_none (TestFails modules) (tested_in modules) (record { number = broken.number; place = place; check = name broken.name_there }) none broken.stands broken.broken
+keeps_rules modules none rule.UnresolvedPath place args broken =
+    chosen_none (TestFails modules) (tested_in modules) (record { number = broken.number; place = place; check = path broken.path_there }) none broken.stands broken.broken
+keeps_rules modules none rule.LifetimeUnknown place args broken =
+    chosen_none (TestFails modules) (tested_in modules) (record { number = broken.number; place = place; check = lifetime broken.env broken.used }) none broken.stands broken.broken
 
 -- a test that fails breaks its rule
-breaks_rule : (root : Module) (item : List ℕ) (method : Option (List ℕ)) (check : Check) → Contains (tested_in root.items) (record { item = item; method = method; check = check })
-    → Fails root.items check → ¬ (BreakNothing root)
-breaks_rule root item method (name n) there fails keeps =
-    keeps rule.BadIdent (record { path = root.path; item = item; method = method }) (n ∷ []) (record { name_there = n; stands = (there, refl); broken = fails; arguments = refl })
-breaks_rule root item method (path p) there fails keeps =
-    keeps rule.UnresolvedPath (record { path = root.path; item = item; method = method }) (path_text p ∷ [])
-    (record { path_there = p; stands = (there, refl); broken = fails; arguments = refl })
-breaks_rule root item method (lifetime env l) there fails keeps =
-    keeps rule.LifetimeUnknown (record { path = root.path; item = item; method = method }) (l ∷ [])
-    (record { env = env; used = l; stands = (there, refl); broken = fails; arguments = refl })
+pub test_breaks : (modules : List Module) (number : ℕ) (place : Place) (check : Check) → Contains (tested_in modules) (record { number = number; place = place; check = check })
+    → Fails modules number check → Breaks modules (rule_of check) place (arg_of check ∷ [])
+test_breaks modules number place (name n) there fails = record { number = number; name_there = n; stands = there; broken = fails; arguments = refl }
+test_breaks modules number place (path p) there fails = record { number = number; path_there = p; stands = there; broken = fails; arguments = refl }
+test_breaks modules number place (lifetime env l) there fails = record { number = number; env = env; used = l; stands = there; broken = fails; arguments = refl }
+
+-- what is tested in a module is tested
+tested_there : (modules : List Module) (i : ℕ) (d : Module) (test : Tested) → i < length modules
+    → Contains (tested_in_module i (get_or modules i d)) test → Contains (tested_in modules) test
+tested_there modules i d test lt h =
+    contains_flat_map (tested_at_number modules) (walk_order modules) i test (all_walked modules i d lt) (rw (get_there modules i d lt) h)
 
 -- a name of a lifetime of a method is tested
-name_is_tested : (root : Module) (item : Item) (method : Method) (n : List ℕ) → Contains root.items item → Contains (methods_of item) method → Contains (lifetime_names method.lifetime_env) n
-    → Contains (tested_in root.items) (record { item = item_name item; method = Some method.name; check = name n })
-name_is_tested root item method n item_there method_there name_there =
+name_is_tested : (number : ℕ) (m : Module) (item : Item) (method : Method) (n : List ℕ) → Contains m.items item → Contains (methods_of item) method
+    → Contains (lifetime_names method.lifetime_env) n
+    → Contains (tested_in_module number m)
+    (record { number = number; place = record { path = m.path; item = item_name item; method = Some method.name }; check = name n })
+name_is_tested number m item method n item_there method_there name_there =
     let own : Contains (method_names method) n =
     contains_later method.name n _ (Contains-append_right (map (λ param. param.name) method.params) (lifetime_names method.lifetime_env) n name_there) in
     let check : Contains (method_checks method) (name n) =
     Contains-append_left (map name (method_names method)) (map path (method_paths method) ++ map (lifetime method.lifetime_env) _) (name n) (contains_map name (method_names method) n own) in
-    let in_method : Contains (tested_in_method (item_name item) method) (record { item = item_name item; method = Some method.name; check = name n }) =
-    contains_map (λ c. record { item = item_name item; method = Some method.name; check = c }) (method_checks method) (name n) check in
-    contains_flat_map tested_in_item root.items item _ item_there
-    (contains_later _ _ _ (contains_flat_map (tested_in_method (item_name item)) (methods_of item) method _ method_there in_method))
+    let in_method : Contains (tested_in_method number m.path (item_name item) method)
+    (record { number = number; place = record { path = m.path; item = item_name item; method = Some method.name }; check = name n }) =
+    contains_map (λ c. record { number = number; place = record { path = m.path; item = item_name item; method = Some method.name }; check = c }) (method_checks method) (name n) check in
+    contains_flat_map (tested_in_item number m.path) m.items item _ item_there
+    (contains_later _ _ _ (contains_flat_map (tested_in_method number m.path (item_name item)) (methods_of item) method _ method_there in_method))
 
 -- where no rule is broken, each lifetime's name passes
-pub names_pass : (root : Module) → BreakNothing root → All HasNamedMethods root.items
-names_pass root keeps i item_d item_lt j method_d method_lt k name_d name_lt = λ bad.
-    (let item = get_or root.items i item_d in
+pub names_pass : (modules : List Module) → BreakNothing modules → All HasNamedItems modules
+names_pass modules keeps h module_d module_lt i item_d item_lt j method_d method_lt k name_d name_lt = λ bad.
+    (let m = get_or modules h module_d in
+    let item = get_or m.items i item_d in
     let method = get_or (methods_of item) j method_d in
     let n = get_or (lifetime_names method.lifetime_env) k name_d in
-    breaks_rule root (item_name item) (Some method.name) (name n)
-    (name_is_tested root item method n (Contains-get_or root.items i item_d item_lt) (Contains-get_or (methods_of item) j method_d method_lt)
-    (Contains-get_or (lifetime_names method.lifetime_env) k name_d name_lt))
-    bad keeps)
+    let place : Place = record { path = m.path; item = item_name item; method = Some method.name } in
+    let test : Tested = record { number = h; place = place; check = name n } in
+    let in_module : Contains (tested_in_module h m) test =
+    name_is_tested h m item method n (Contains-get_or m.items i item_d item_lt) (Contains-get_or (methods_of item) j method_d method_lt)
+    (Contains-get_or (lifetime_names method.lifetime_env) k name_d name_lt) in
+    let there = tested_there modules h module_d test module_lt in_module in
+    keeps rule.BadIdent place (n ∷ []) (test_breaks modules h place (name n) there bad))
 
--- the verdict on declarations is that on the bytes that spell them
-pub judged : (bytes : List ℕ) (root : Module) → ((other : Module) → Spelled bytes root → Spelled bytes other → root ≡ other) → Spelled bytes root
-    → (verdict : Verdict) → JudgesDeclarations root verdict → Judges bytes verdict
-judged bytes root one spelled (Declarations sound) h = subst (Spells bytes) (sym h.0) (record { spelled = spelled; sound = h.1 })
-judged bytes root one spelled NotJson h = absurd h
-judged bytes root one spelled NotBuilt h = (
-  (spelled.value, spelled.json),
-  λ other spells. h (subst AreSound (sym (one other spelled spells.spelled)) spells.sound),
-)
+-- the verdict on the modules of an input is that on the bytes that spell it
+pub judged : (bytes : List ℕ) (input : Input) → SpellsInput bytes input → (verdict : Verdict) → JudgesModules input.env verdict → Judges bytes verdict
+judged bytes input spelled (Declarations modules) h = record { input = input; spelled = spelled; is = h.0; built = subst AreBuilt (sym h.0) h.1 }
+judged bytes input spelled (Faulty what pointer) h = absurd h
+judged bytes input spelled NotBuilt h = (input, spelled, h)
 
--- bytes that spell nothing spell no declarations
-pub nothing_spelled : (bytes : List ℕ) → SpellsNothing bytes → (root : Module) → ¬ (Spells bytes root)
-nothing_spelled bytes none root spells =
-    let spelled = spells.spelled in
-    let same : spelled.value ≡ none.value = (let p : read bytes ≡ Some spelled.value = spelled.json.value in let q : read bytes ≡ Some none.value = none.json.value in cc) in
-    none.nothing root (subst (λ (d : Data). SpellsInput d root) same spelled.input)
+-- bytes that are read as no input spell none
+pub judged_faulty : (bytes : List ℕ) (fault : InputFault) (what : InputKind) (pointer : List ℕ) → fault ≡ NotDeclarations what pointer
+    → ((input : Input) → SpellsInput bytes input → IsReadAs (Err fault) input) → IsToldOf bytes fault → Judges bytes (Faulty what pointer)
+judged_faulty bytes fault what pointer is only told = record {
+  nothing = λ input spells. subst (λ (f : InputFault). IsReadAs (Err f) input) is (only input spells);
+  told = subst (IsToldOf bytes) is told;
+}

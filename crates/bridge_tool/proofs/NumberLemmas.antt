@@ -6,9 +6,6 @@ use Rattle.std.specs.Ordering.{nat_cmp}
 use Rattle.std.specs.Cmp.Lexicographic.{slice_cmp}
 use Rattle.std.specs.BTreeMap.{BTreeMap, get}
 use Rattle.std.proofs.lemmas.Option.{get_or_from_slice_get, slice_get_read, slice_get_cases}
-use Rattle.bridge_ast.specs.declared.modules.Item.{Item}
-use Rattle.bridge_ast.specs.declared.paths.PathType.{PathType}
-use Rattle.bridge_ast.specs.Names.{Names, item_names}
 use Rattle.bridge_tool.specs.Index.{Indexes, number_of}
 use Rattle.bridge_tool.proofs.IndexLemmas.{same_text, text_itself, none_parts}
 
@@ -65,18 +62,6 @@ has_name false index names name e indexed = λ h.
     let none : number_of names name ≡ None = is_some_none (number_of names name) (ap is_some (sym (indexed.finds name)) ∙ sym e) in
     let k = get_from_contains names name h in
     number_stands names name k.0 k.1 none
-
--- the same of the one segment of a path
-pub has_item : (found : Bool) (index : BTreeMap (List ℕ) ℕ) (all : List Item) (path : PathType) (segment : List ℕ) → path.segments ≡ segment ∷ []
-    → found ≡ is_some (get (slice_cmp nat_cmp) index segment) → Indexes index (item_names all)
-    → MatchBool found ((place : ℕ) × Names all path place) (¬ ((place : ℕ) × Names all path place))
-has_item true index all path segment one e indexed =
-    let p = is_some_some (number_of (item_names all) segment) (ap is_some (sym (indexed.finds segment)) ∙ sym e) in
-    (p.0, record { name = segment; segments = one; named = number_found (item_names all) segment p.0 p.1 })
-has_item false index all path segment one e indexed = λ h.
-    let none : number_of (item_names all) segment ≡ None = is_some_none (number_of (item_names all) segment) (ap is_some (sym (indexed.finds segment)) ∙ sym e) in
-    let same : h.1.name ≡ segment = (let p = h.1.segments in let q : h.1.name ∷ [] ≡ segment ∷ [] = sym p ∙ one in cc) in
-    number_stands (item_names all) segment h.0 (h.1.named ∙ ap (λ n. Some n) same) none
 
 -- a list of one element
 pub only_one : (texts : List (List ℕ)) (x : List ℕ) → 1 ≤ length texts → length texts < 2 → x ≡ get_or texts 0 x → texts ≡ x ∷ []

@@ -1,17 +1,18 @@
 -- The texts of a page, piece by piece.
 use Rattle.std.proofs.Common.{◌≡◌, ℕ, zero, suc, ◌+◌, ◌<◌, ◌≤◌, min, Bool, List, [], ◌∷◌, ◌++◌, length, map, take, drop, get_or, Option, Some, None, refl, sym, ap, ◌∙◌, append_assoc, add-one, arith}
 use Rattle.std.specs.Prelude.{◌==◌, slice_get, codes, option_map, unwrap_or}
-use Rattle.std.specs.List.{join_by}
+use Rattle.std.specs.List.{flat_map, join_by}
 use Rattle.std.proofs.lemmas.List.{append-nil, take_all, take-take, take_min, length-map, length-append, drop-drop, drop_min}
 use Rattle.std.proofs.lemmas.Option.{get_or_from_slice_get, slice_get-map, slice_get_read, unwrap_or-slice_get}
 use Rattle.bridge_ast.specs.declared.methods.Method.{Method}
 use Rattle.bridge_ast.specs.declared.modules.Item.{Item}
+use Rattle.bridge_ast.specs.declared.modules.Module.{Module}
 use Rattle.bridge_ast.specs.Names.{item_name}
 use Rattle.bridge_tool.specs.declared.report.CallableReport.{CallableReport}
-use Rattle.bridge_tool.specs.Borrows.{Callable, callables_of, callables}
+use Rattle.bridge_tool.specs.Borrows.{Callable, callables_of, callables_in}
 use Rattle.bridge_tool.specs.Chosen.{EachPair}
 use Rattle.bridge_tool.specs.Page.{opening, listed, callable_text, text_with, callables_text}
-use Rattle.bridge_tool.specs.Sound.{methods_of}
+use Rattle.bridge_tool.specs.Methods.{methods_of}
 use Rattle.bridge_tool.proofs.ChosenLemmas.{flat_map_one_more}
 
 -- the name of what stands at a place
@@ -51,11 +52,11 @@ callables_next cs reports i callable h =
     sym (callables_more cs reports i callable h) ∙ ap (λ n. callables_text (take n cs) (take n reports)) (sym (add-one i))
 
 -- the method at a place of an item is the callable at that place
-pub callable_at : (item : Item) (methods : List Method) (i : ℕ) (method : Method) → methods ≡ methods_of item → i < length methods → method ≡ get_or methods i method
-    → slice_get (callables_of item) i ≡ Some (record { item = item_name item; method = method })
-callable_at item methods i method same lt is =
+pub callable_at : (path : List (List ℕ)) (item : Item) (methods : List Method) (i : ℕ) (method : Method) → methods ≡ methods_of item → i < length methods → method ≡ get_or methods i method
+    → slice_get (callables_of path item) i ≡ Some (record { path = path; item = item_name item; method = method })
+callable_at path item methods i method same lt is =
     let here : slice_get (methods_of item) i ≡ Some method = ap (λ (ms : List Method). slice_get ms i) (sym same) ∙ slice_get_read methods (length methods) i method refl lt is in
-    slice_get-map (λ m. record { item = item_name item; method = m }) (methods_of item) i ∙ ap (λ (o : Option Method). option_map (λ m. record { item = item_name item; method = m }) o) here
+    slice_get-map (λ m. record { path = path; item = item_name item; method = m }) (methods_of item) i ∙ ap (λ (o : Option Method). option_map (λ m. record { path = path; item = item_name item; method = m }) o) here
 
 -- reports past the cs don't count
 pub enough_reports : (cs : List Callable) (reports : List CallableReport) → callables_text cs (take (length cs) reports) ≡ callables_text cs reports
@@ -64,14 +65,14 @@ enough_reports (callable ∷ cs) [] = refl
 enough_reports (callable ∷ cs) (report ∷ reports) = ap (λ t. callable_text callable report ++ t) (enough_reports cs reports)
 
 -- all callables of an item were printed
-pub callables_all : (item : Item) (methods : List Method) (i : ℕ) (reports : List CallableReport) → methods ≡ methods_of item → length methods ≤ i
-    → callables_text (take i (callables_of item)) (take i reports) ≡ callables_text (callables_of item) reports
-callables_all item methods i reports same le =
-    let count : length (callables_of item) ≡ length methods = length-map (methods_of item) (λ m. record { item = item_name item; method = m }) ∙ ap length (sym same) in
-    let short : length (callables_of item) ≤ i = omega (arith, count) in
-    ap (λ cs. callables_text cs (take i reports)) (take_all i (callables_of item) short)
-    ∙ sym (enough_reports (callables_of item) (take i reports)) ∙ ap (callables_text (callables_of item)) (take-take (length (callables_of item)) i reports short)
-    ∙ enough_reports (callables_of item) reports
+pub callables_all : (path : List (List ℕ)) (item : Item) (methods : List Method) (i : ℕ) (reports : List CallableReport) → methods ≡ methods_of item → length methods ≤ i
+    → callables_text (take i (callables_of path item)) (take i reports) ≡ callables_text (callables_of path item) reports
+callables_all path item methods i reports same le =
+    let count : length (callables_of path item) ≡ length methods = length-map (methods_of item) (λ m. record { path = path; item = item_name item; method = m }) ∙ ap length (sym same) in
+    let short : length (callables_of path item) ≤ i = omega (arith, count) in
+    ap (λ cs. callables_text cs (take i reports)) (take_all i (callables_of path item) short)
+    ∙ sym (enough_reports (callables_of path item) (take i reports)) ∙ ap (callables_text (callables_of path item)) (take-take (length (callables_of path item)) i reports short)
+    ∙ enough_reports (callables_of path item) reports
 
 -- some cs, and then others with the reports that are left
 pub callables_then : (cs others : List Callable) (reports : List CallableReport)
@@ -89,28 +90,39 @@ pairs_length R (x ∷ xs) [] h = absurd h
 pairs_length R (x ∷ xs) (y ∷ ys) h = ap suc (pairs_length R xs ys h.1)
 
 -- the reports of an item are those at the front of what is left
-pub own_reports : (item : Item) (methods : List Method) (count : ℕ) (rest own : List CallableReport) → methods ≡ methods_of item → count ≡ min (length methods) (length rest)
-    → own ≡ take count rest → callables_text (callables_of item) own ≡ callables_text (callables_of item) rest
-own_reports item methods count rest own same fewer front =
-    let length_is : length methods ≡ length (callables_of item) = ap length same ∙ sym (length-map (methods_of item) (λ m. record { item = item_name item; method = m })) in
-    ap (callables_text (callables_of item)) (front ∙ ap (λ n. take n rest) fewer ∙ take_min (length methods) rest ∙ ap (λ n. take n rest) length_is)
-    ∙ enough_reports (callables_of item) rest
+pub own_reports : (path : List (List ℕ)) (item : Item) (methods : List Method) (count : ℕ) (rest own : List CallableReport) → methods ≡ methods_of item → count ≡ min (length methods) (length rest)
+    → own ≡ take count rest → callables_text (callables_of path item) own ≡ callables_text (callables_of path item) rest
+own_reports path item methods count rest own same fewer front =
+    let length_is : length methods ≡ length (callables_of path item) = ap length same ∙ sym (length-map (methods_of item) (λ m. record { path = path; item = item_name item; method = m })) in
+    ap (callables_text (callables_of path item)) (front ∙ ap (λ n. take n rest) fewer ∙ take_min (length methods) rest ∙ ap (λ n. take n rest) length_is)
+    ∙ enough_reports (callables_of path item) rest
 
--- one more item was printed
-pub item_next : (items : List Item) (i : ℕ) (item : Item) (reports rest own : List CallableReport) → i < length items → item ≡ get_or items i item
-    → rest ≡ drop (length (callables (take i items))) reports → callables_text (callables_of item) own ≡ callables_text (callables_of item) rest
-    → callables_text (callables (take i items)) reports ++ callables_text (callables_of item) own ≡ callables_text (callables (take (i + 1) items)) reports
-item_next items i item reports rest own lt is left same =
-    ap (λ t. callables_text (callables (take i items)) reports ++ t) (same ∙ ap (callables_text (callables_of item)) left)
-    ∙ sym (callables_then (callables (take i items)) (callables_of item) reports)
-    ∙ ap (λ cs. callables_text cs reports) (flat_map_one_more callables_of items i item lt is)
+-- the reports that are left after those of an item
+pub others_left : (path : List (List ℕ)) (item : Item) (methods : List Method) (count : ℕ) (rest others : List CallableReport) → methods ≡ methods_of item
+    → count ≡ min (length methods) (length rest) → others ≡ drop count rest → others ≡ drop (length (callables_of path item)) rest
+others_left path item methods count rest others same fewer back =
+    let length_is : length methods ≡ length (callables_of path item) =
+    ap length same ∙ sym (length-map (methods_of item) (λ m. record { path = path; item = item_name item; method = m })) in
+    back ∙ ap (λ n. drop n rest) fewer ∙ drop_min (length methods) rest ∙ ap (λ n. drop n rest) length_is
 
-pub left_next : (items : List Item) (i : ℕ) (item : Item) (methods : List Method) (count : ℕ) (reports rest others : List CallableReport) → i < length items → item ≡ get_or items i item
-    → methods ≡ methods_of item → count ≡ min (length methods) (length rest) → rest ≡ drop (length (callables (take i items))) reports → others ≡ drop count rest
-    → others ≡ drop (length (callables (take (i + 1) items))) reports
-left_next items i item methods count reports rest others lt is same fewer left back =
-    let length_is : length methods ≡ length (callables_of item) = ap length same ∙ sym (length-map (methods_of item) (λ m. record { item = item_name item; method = m })) in
-    let total : length (callables (take i items)) + length (callables_of item) ≡ length (callables (take (i + 1) items)) =
-    sym (length-append (callables (take i items)) (callables_of item)) ∙ ap length (flat_map_one_more callables_of items i item lt is) in
-    back ∙ ap (λ n. drop n rest) fewer ∙ drop_min (length methods) rest ∙ ap (λ n. drop n rest) length_is ∙ ap (drop (length (callables_of item))) left
-    ∙ drop-drop (length (callables_of item)) (length (callables (take i items))) reports ∙ ap (λ n. drop n reports) total
+module _ {X : Type 0} (f : X → List Callable) (xs : List X) (i : ℕ) (x : X) (reports rest : List CallableReport)
+    (lt : i < length xs) (is : x ≡ get_or xs i x) (left : rest ≡ drop (length (flat_map f (take i xs))) reports) where
+  -- the callables of one more of a list were printed
+  pub text_next : (own : List CallableReport) → callables_text (f x) own ≡ callables_text (f x) rest
+      → callables_text (flat_map f (take i xs)) reports ++ callables_text (f x) own ≡ callables_text (flat_map f (take (i + 1) xs)) reports
+  text_next own same =
+      ap (λ t. callables_text (flat_map f (take i xs)) reports ++ t) (same ∙ ap (callables_text (f x)) left)
+      ∙ sym (callables_then (flat_map f (take i xs)) (f x) reports)
+      ∙ ap (λ cs. callables_text cs reports) (flat_map_one_more f xs i x lt is)
+
+  -- and their reports are gone
+  pub left_next : (others : List CallableReport) → others ≡ drop (length (f x)) rest → others ≡ drop (length (flat_map f (take (i + 1) xs))) reports
+  left_next others back =
+      let total : length (flat_map f (take i xs)) + length (f x) ≡ length (flat_map f (take (i + 1) xs)) =
+      sym (length-append (flat_map f (take i xs)) (f x)) ∙ ap length (flat_map_one_more f xs i x lt is) in
+      back ∙ ap (drop (length (f x))) left ∙ drop-drop (length (f x)) (length (flat_map f (take i xs))) reports ∙ ap (λ n. drop n reports) total
+
+-- the callables of the items of a module are those of the module
+pub module_callables : (m : Module) (path : List (List ℕ)) (items : List Item) → path ≡ m.path → items ≡ m.items → flat_map (callables_of path) items ≡ callables_in m
+module_callables m path items same all =
+    ap (λ (p : List (List ℕ)). flat_map (callables_of p) items) same ∙ ap (flat_map (callables_of m.path)) all

@@ -1,5 +1,5 @@
 -- From the tests that failed to the reports of the rules that are broken.
-use Rattle.std.proofs.Common.{◌≡◌, ◌≤◌, ℕ, zero, suc, Bool, true, false, List, [], ◌∷◌, length, map, Option, refl, sym, ◌∙◌, subst, arith, inl, inr}
+use Rattle.std.proofs.Common.{◌≡◌, ◌≤◌, ℕ, zero, suc, Bool, true, false, List, [], ◌∷◌, length, map, refl, sym, ◌∙◌, subst, arith, inl, inr}
 use Rattle.std.specs.Prelude.{◌==◌, Contains}
 use Rattle.std.proofs.lemmas.Bool.{eqb-true}
 use Rattle.std.proofs.lemmas.List.{length-map}
@@ -12,13 +12,13 @@ use Rattle.bridge_tool.specs.Checks.{Check, name, path, lifetime, Tested, Fails,
 use Rattle.bridge_tool.specs.Chosen.{Chosen}
 use Rattle.bridge_tool.specs.Lines.{Reported, AreRefusedBy, arg_of, reported, rule_of}
 use Rattle.bridge_tool.specs.Reports.{TestFails}
-use Rattle.bridge_tool.proofs.JudgeLemmas.{contains_first, contains_later, contains_map, keeps_rules}
+use Rattle.bridge_tool.proofs.JudgeLemmas.{contains_first, contains_later, contains_map, keeps_rules, test_breaks}
 
 -- no fault, no broken rule
-pub kept_without_faults : {A : Type 0} (f : A → Tested) (root : Module) (faults : List A) (empty : Bool) → empty ≡ (length faults == 0) → empty ≡ true
-    → Chosen (TestFails root.items) (tested_in root.items) (map f faults) → BreakNothing root
-kept_without_faults f root [] empty is holds h = keeps_rules root h
-kept_without_faults f root (x ∷ xs) empty is holds h = absurd (let e : suc (length xs) ≡ 0 = eqb-true (suc (length xs)) 0 (sym is ∙ holds) in omega arith)
+pub kept_without_faults : {A : Type 0} (f : A → Tested) (modules : List Module) (faults : List A) (empty : Bool) → empty ≡ (length faults == 0) → empty ≡ true
+    → Chosen (TestFails modules) (tested_in modules) (map f faults) → BreakNothing modules
+kept_without_faults f modules [] empty is holds h = keeps_rules modules h
+kept_without_faults f modules (x ∷ xs) empty is holds h = absurd (let e : suc (length xs) ≡ 0 = eqb-true (suc (length xs)) 0 (sym is ∙ holds) in omega arith)
 
 pub some_faults : {A : Type 0} (faults : List A) (empty : Bool) → empty ≡ (length faults == 0) → empty ≡ false → 1 ≤ length faults
 some_faults [] empty is fails = absurd (let e : true ≡ false = sym is ∙ fails in cc)
@@ -51,46 +51,38 @@ contained_in_map f [] y there = absurd (let few = there.1 in omega arith)
 contained_in_map f (x ∷ xs) y (zero, lt, is) = (x, contains_first x xs, is)
 contained_in_map f (x ∷ xs) y (suc k, lt, is) = let rest = contained_in_map f xs y (k, omega arith, is) in (rest.0, contains_later x rest.0 xs rest.1, rest.2)
 
--- a test that fails breaks its rule
-test_breaks : (root : Module) (item : List ℕ) (method : Option (List ℕ)) (check : Check) → Contains (tested_in root.items) (record { item = item; method = method; check = check })
-    → Fails root.items check → Breaks root (rule_of check) (record { path = root.path; item = item; method = method }) (arg_of check ∷ [])
-test_breaks root item method (name n) there fails = record { name_there = n; stands = (there, refl); broken = fails; arguments = refl }
-test_breaks root item method (path p) there fails = record { path_there = p; stands = (there, refl); broken = fails; arguments = refl }
-test_breaks root item method (lifetime env l) there fails = record { env = env; used = l; stands = (there, refl); broken = fails; arguments = refl }
-
 -- each report names a broken rule
-each_breaks : (root : Module) (failed : List Tested) → Chosen (TestFails root.items) (tested_in root.items) failed → (report : Reported) → Contains (map (reported root.path) failed) report
-    → Breaks root report.rule report.place report.args
-each_breaks root failed chosen report there =
-    let from = contained_in_map (reported root.path) failed report there in
-    let holds = chosen_holds (TestFails root.items) (tested_in root.items) failed from.0 chosen from.1 in
-    subst (λ (r : Reported). Breaks root r.rule r.place r.args) from.2 (test_breaks root from.0.item from.0.method from.0.check holds.0 holds.1)
+each_breaks : (modules : List Module) (failed : List Tested) → Chosen (TestFails modules) (tested_in modules) failed → (report : Reported) → Contains (map reported failed) report
+    → Breaks modules report.rule report.place report.args
+each_breaks modules failed chosen report there =
+    let from = contained_in_map reported failed report there in
+    let holds = chosen_holds (TestFails modules) (tested_in modules) failed from.0 chosen from.1 in
+    subst (λ (r : Reported). Breaks modules r.rule r.place r.args) from.2 (test_breaks modules from.0.number from.0.place from.0.check holds.0 holds.1)
 
--- the report of a test that fails, with its place and its arguments in other words
-report_there : (root : Module) (failed : List Tested) → Chosen (TestFails root.items) (tested_in root.items) failed → (place : Place) (args : List (List ℕ)) (check : Check)
-    → Contains (tested_in root.items) (record { item = place.item; method = place.method; check = check }) → place.path ≡ root.path → Fails root.items check → args ≡ arg_of check ∷ []
-    → Contains (map (reported root.path) failed) (record { rule = rule_of check; place = place; args = args })
-report_there root failed chosen place args check there path_is fails args_are =
-    let t : Tested = record { item = place.item; method = place.method; check = check } in
-    let in_failed = chosen_has (TestFails root.items) (tested_in root.items) failed t chosen there fails in
-    let base = contains_map (reported root.path) failed t in_failed in
-    subst (λ (a : List (List ℕ)). Contains (map (reported root.path) failed) (record { rule = rule_of check; place = place; args = a })) (sym args_are)
-    (subst (λ (p : List (List ℕ)). Contains (map (reported root.path) failed) (record { rule = rule_of check; place = record { path = p; item = place.item; method = place.method }; args = arg_of check ∷ [] })) (sym path_is) base)
+-- the report of a test that fails, with its arguments in other words
+report_there : (modules : List Module) (failed : List Tested) → Chosen (TestFails modules) (tested_in modules) failed → (number : ℕ) (place : Place) (args : List (List ℕ)) (check : Check)
+    → Contains (tested_in modules) (record { number = number; place = place; check = check }) → Fails modules number check → args ≡ arg_of check ∷ []
+    → Contains (map reported failed) (record { rule = rule_of check; place = place; args = args })
+report_there modules failed chosen number place args check there fails args_are =
+    let t : Tested = record { number = number; place = place; check = check } in
+    let in_failed = chosen_has (TestFails modules) (tested_in modules) failed t chosen there fails in
+    subst (λ (a : List (List ℕ)). Contains (map reported failed) (record { rule = rule_of check; place = place; args = a })) (sym args_are)
+    (contains_map reported failed t in_failed)
 
 -- each broken rule is reported
-every_reported : (root : Module) (failed : List Tested) → Chosen (TestFails root.items) (tested_in root.items) failed → (broken : Rule) (place : Place) (args : List (List ℕ))
-    → Breaks root broken place args → Contains (map (reported root.path) failed) (record { rule = broken; place = place; args = args })
-every_reported root failed chosen rule.BadIdent place args b = report_there root failed chosen place args (name b.name_there) b.stands.0 b.stands.1 b.broken b.arguments
-every_reported root failed chosen rule.UnresolvedPath place args b = report_there root failed chosen place args (path b.path_there) b.stands.0 b.stands.1 b.broken b.arguments
-every_reported root failed chosen rule.LifetimeUnknown place args b = report_there root failed chosen place args (lifetime b.env b.used) b.stands.0 b.stands.1 b.broken b.arguments
+every_reported : (modules : List Module) (failed : List Tested) → Chosen (TestFails modules) (tested_in modules) failed → (broken : Rule) (place : Place) (args : List (List ℕ))
+    → Breaks modules broken place args → Contains (map reported failed) (record { rule = broken; place = place; args = args })
+every_reported modules failed chosen rule.BadIdent place args b = report_there modules failed chosen b.number place args (name b.name_there) b.stands b.broken b.arguments
+every_reported modules failed chosen rule.UnresolvedPath place args b = report_there modules failed chosen b.number place args (path b.path_there) b.stands b.broken b.arguments
+every_reported modules failed chosen rule.LifetimeUnknown place args b = report_there modules failed chosen b.number place args (lifetime b.env b.used) b.stands b.broken b.arguments
 
 -- the reports of faults refuse the declarations
-pub refused_by_faults : {A : Type 0} (f : A → Tested) (root : Module) (faults : List A) → 1 ≤ length faults
-    → Chosen (TestFails root.items) (tested_in root.items) (map f faults) → AreRefusedBy root (map (reported root.path) (map f faults))
-refused_by_faults f root faults some chosen = record {
-  some = subst (λ n. 1 ≤ n) (sym (length-map (map f faults) (reported root.path) ∙ length-map faults f)) some;
-  each = each_breaks root (map f faults) chosen;
-  every = every_reported root (map f faults) chosen;
+pub refused_by_faults : {A : Type 0} (f : A → Tested) (modules : List Module) (faults : List A) → 1 ≤ length faults
+    → Chosen (TestFails modules) (tested_in modules) (map f faults) → AreRefusedBy modules (map reported (map f faults))
+refused_by_faults f modules faults some chosen = record {
+  some = subst (λ n. 1 ≤ n) (sym (length-map (map f faults) reported ∙ length-map faults f)) some;
+  each = each_breaks modules (map f faults) chosen;
+  every = every_reported modules (map f faults) chosen;
   failed = map f faults;
   chosen = chosen;
   in_order = refl;

@@ -1,8 +1,8 @@
 -- What is tested in a method, part by part.
-use Rattle.std.proofs.Common.{◌≡◌, ℕ, List, [], ◌∷◌, ◌++◌, map, refl, sym, ap, subst, ◌∙◌}
+use Rattle.std.proofs.Common.{◌≡◌, ℕ, ◌≤◌, List, [], ◌∷◌, ◌++◌, length, map, take, refl, sym, ap, subst, ◌∙◌}
 use Rattle.std.specs.Prelude.{Some, None}
 use Rattle.std.specs.List.{flat_map}
-use Rattle.std.proofs.lemmas.List.{map-append}
+use Rattle.std.proofs.lemmas.List.{map-append, take_all}
 use Rattle.std.proofs.lemmas.List.Concat.{flat_map_single, flat_map-cons}
 use Rattle.std.proofs.lemmas.Simd.{map-map}
 use Rattle.std.proofs.lemmas.Grind.{flat_map-append}
@@ -10,14 +10,16 @@ use Rattle.bridge_ast.specs.declared.lifetimes.LifetimeNode.{LifetimeNode}
 use Rattle.bridge_ast.specs.declared.methods.Method.{Method}
 use Rattle.bridge_ast.specs.declared.methods.Param.{Param}
 use Rattle.bridge_ast.specs.declared.modules.Item.{Item}
+use Rattle.bridge_ast.specs.declared.modules.Module.{Module}
 use Rattle.bridge_ast.specs.declared.paths.PathType.{PathType}
 use Rattle.bridge_ast.specs.declared.types.TypeName.{out-TypeName}
 use Rattle.bridge_ast.specs.Environments.{lifetime_names}
 use Rattle.bridge_ast.specs.Names.{item_name}
-use Rattle.bridge_tool.specs.Checks.{Check, name, path, lifetime, lifetime_name, Tested, method_names, method_paths, method_lifetimes, receiver_paths, returned_paths, receiver_lifetimes, returned_lifetimes, type_paths, type_lifetimes, tested_in_method, tested_in_item, method_checks}
+use Rattle.bridge_tool.specs.Checks.{Check, name, path, lifetime, lifetime_name, Tested, method_names, method_paths, method_lifetimes, receiver_paths, returned_paths, receiver_lifetimes, returned_lifetimes, type_paths, type_lifetimes, tested_in_method, tested_in_item, tested_in_module, tested_at_number, tested_in, method_checks}
 use Rattle.bridge_tool.specs.Chosen.{Chosen}
+use Rattle.bridge_tool.specs.Walking.{walk_order}
 use Rattle.bridge_tool.specs.Reports.{Appends}
-use Rattle.bridge_tool.specs.Sound.{methods_of}
+use Rattle.bridge_tool.specs.Methods.{methods_of}
 use Rattle.bridge_tool.proofs.ChosenLemmas.{appends_then}
 
 -- a test for each element of lists that a function makes
@@ -66,10 +68,11 @@ lifetimes_tests g method =
     ∙ map_flat_map g (λ param. flat_map lifetime_name (type_lifetimes (out-TypeName param.ty))) method.params))
 
 -- the tests of a method: of its names, its paths and its lifetimes
-pub method_tests : (item : List ℕ) (method : Method) (at : Check → Tested) → at ≡ (λ check. record { item = item; method = Some method.name; check = check })
-    → tested_in_method item method ≡ map (λ n. at (name n)) (method_names method) ++ (map (λ p. at (path p)) (method_paths method)
+pub method_tests : (number : ℕ) (above : List (List ℕ)) (item : List ℕ) (method : Method) (at : Check → Tested)
+    → at ≡ (λ check. record { number = number; place = record { path = above; item = item; method = Some method.name }; check = check })
+    → tested_in_method number above item method ≡ map (λ n. at (name n)) (method_names method) ++ (map (λ p. at (path p)) (method_paths method)
     ++ map (λ l. at (lifetime method.lifetime_env l)) (flat_map lifetime_name (method_lifetimes method)))
-method_tests item method at is =
+method_tests number above item method at is =
     ap (λ f. map f (method_checks method)) (sym is)
     ∙ map-append at (map name (method_names method)) _
     ∙ ap (λ l. map at (map name (method_names method)) ++ l) (map-append at (map path (method_paths method)) _)
@@ -108,24 +111,37 @@ lifetimes_tested {C} P g method params a b c d ps first second third =
     subst (λ (tests : List C). Appends P tests a d) (sym (lifetimes_tests g method)) (appends_then P _ _ a b d first (appends_then P _ _ b c d h2 third))
 
 -- a method was tested, part by part
-pub method_tested : (P : Tested → Type 0) (item : List ℕ) (method : Method) (at : Check → Tested) (a b c d : List Tested)
-    → at ≡ (λ check. record { item = item; method = Some method.name; check = check })
+pub method_tested : (P : Tested → Type 0) (number : ℕ) (above : List (List ℕ)) (item : List ℕ) (method : Method) (at : Check → Tested) (a b c d : List Tested)
+    → at ≡ (λ check. record { number = number; place = record { path = above; item = item; method = Some method.name }; check = check })
     → Appends P (map (λ n. at (name n)) (method_names method)) a b → Appends P (map (λ p. at (path p)) (method_paths method)) b c
     → Appends P (map (λ l. at (lifetime method.lifetime_env l)) (flat_map lifetime_name (method_lifetimes method))) c d
-    → Appends P (tested_in_method item method) a d
-method_tested P item method at a b c d is first second third =
-    subst (λ (tests : List Tested). Appends P tests a d) (sym (method_tests item method at is)) (appends_then P _ _ a b d first (appends_then P _ _ b c d second third))
+    → Appends P (tested_in_method number above item method) a d
+method_tested P number above item method at a b c d is first second third =
+    subst (λ (tests : List Tested). Appends P tests a d) (sym (method_tests number above item method at is)) (appends_then P _ _ a b d first (appends_then P _ _ b c d second third))
 
 -- an item was tested: its name, and its methods
-pub item_tested : (P : Tested → Type 0) (item : Item) (text : List ℕ) (methods : List Method) (a b c : List Tested) → text ≡ item_name item → methods ≡ methods_of item
-    → Appends P (record { item = text; method = None; check = name text } ∷ []) a b → Appends P (flat_map (tested_in_method text) methods) b c
-    → Appends P (tested_in_item item) a c
-item_tested P item text methods a b c same all first second =
-    let h1 = subst (λ (t : List ℕ). Appends P (record { item = t; method = None; check = name t } ∷ []) a b) same first in
-    let h2 = subst (λ (t : List ℕ). Appends P (flat_map (tested_in_method t) methods) b c) same second in
-    let h3 = subst (λ (ms : List Method). Appends P (flat_map (tested_in_method (item_name item)) ms) b c) all h2 in
+pub item_tested : (P : Tested → Type 0) (number : ℕ) (above : List (List ℕ)) (item : Item) (text : List ℕ) (methods : List Method) (a b c : List Tested)
+    → text ≡ item_name item → methods ≡ methods_of item
+    → Appends P (record { number = number; place = record { path = above; item = text; method = None }; check = name text } ∷ []) a b
+    → Appends P (flat_map (tested_in_method number above text) methods) b c
+    → Appends P (tested_in_item number above item) a c
+item_tested P number above item text methods a b c same all first second =
+    let h1 = subst (λ (t : List ℕ). Appends P (record { number = number; place = record { path = above; item = t; method = None }; check = name t } ∷ []) a b) same first in
+    let h2 = subst (λ (t : List ℕ). Appends P (flat_map (tested_in_method number above t) methods) b c) same second in
+    let h3 = subst (λ (ms : List Method). Appends P (flat_map (tested_in_method number above (item_name item)) ms) b c) all h2 in
     appends_then P _ _ a b c h1 h3
 
--- the tests of all items from nothing
-pub chosen_from_appends : (P : Tested → Type 0) (tests reports : List Tested) → Appends P tests [] reports → Chosen P tests reports
-chosen_from_appends P tests reports h = subst (Chosen P tests) (sym h.appended) h.are
+-- a module was tested, by its path and its items
+pub module_tested : (P : Tested → Type 0) (number : ℕ) (m : Module) (above : List (List ℕ)) (items : List Item) (a b : List Tested) → above ≡ m.path → items ≡ m.items
+    → Appends P (flat_map (tested_in_item number above) items) a b → Appends P (tested_in_module number m) a b
+module_tested P number m above items a b same all h =
+    subst (λ (is : List Item). Appends P (flat_map (tested_in_item number m.path) is) a b) all
+    (subst (λ (p : List (List ℕ)). Appends P (flat_map (tested_in_item number p) items) a b) same h)
+
+-- all modules were tested, from nothing
+pub all_numbers_tested : (P : Tested → Type 0) (modules : List Module) (order : List ℕ) (i : ℕ) (reports : List Tested) → order ≡ walk_order modules → length order ≤ i
+    → Appends P (flat_map (tested_at_number modules) (take i order)) [] reports → Chosen P (tested_in modules) reports
+all_numbers_tested P modules order i reports is le h =
+    let whole : Appends P (tested_in modules) [] reports =
+    subst (λ (numbers : List ℕ). Appends P (flat_map (tested_at_number modules) numbers) [] reports) (take_all i order le ∙ is) h in
+    subst (Chosen P (tested_in modules)) (sym whole.appended) whole.are

@@ -6,9 +6,9 @@ use Rattle.bridge_ast.specs.declared.methods.Method.{Method}
 use Rattle.bridge_ast.specs.declared.modules.Item.{Item}
 use Rattle.bridge_ast.specs.Names.{item_name}
 use Rattle.bridge_tool.specs.declared.report.CallableReport.{CallableReport}
-use Rattle.bridge_tool.specs.Borrows.{Callable, callables_of, IsCallableReport, AreReports}
+use Rattle.bridge_tool.specs.Borrows.{Callable, callables_of, IsCallableReport}
 use Rattle.bridge_tool.specs.Chosen.{EachPair}
-use Rattle.bridge_tool.specs.Sound.{methods_of}
+use Rattle.bridge_tool.specs.Methods.{methods_of}
 use Rattle.bridge_tool.proofs.ChosenLemmas.{flat_map_one_more}
 
 pub pairs-append : {A B : Type 0} (R : A → B → Type 0) (xs xs' : List A) (ys ys' : List B) → EachPair R xs ys → EachPair R xs' ys' → EachPair R (xs ++ xs') (ys ++ ys')
@@ -18,13 +18,13 @@ pairs-append R (x ∷ xs) xs' [] ys' h k = absurd h
 pairs-append R (x ∷ xs) xs' (y ∷ ys) ys' h k = (h.0, pairs-append R xs xs' ys ys' h.1 k)
 
 -- the report of one more method of an item
-pub one_more_method : (item : Item) (methods : List Method) (i : ℕ) (method : Method) (before : List Callable) (reports : List CallableReport) (report : CallableReport)
+pub one_more_method : (path : List (List ℕ)) (item : Item) (methods : List Method) (i : ℕ) (method : Method) (before : List Callable) (reports : List CallableReport) (report : CallableReport)
     → i < length methods → method ≡ get_or methods i method
-    → EachPair IsCallableReport (before ++ map (λ m. record { item = item_name item; method = m }) (take i methods)) reports
-    → IsCallableReport (record { item = item_name item; method = method }) report
-    → EachPair IsCallableReport (before ++ map (λ m. record { item = item_name item; method = m }) (take (i + 1) methods)) (reports ++ report ∷ [])
-one_more_method item methods i method before reports report lt is so_far here =
-    let as_callable : Method → Callable = λ m. record { item = item_name item; method = m } in
+    → EachPair IsCallableReport (before ++ map (λ m. record { path = path; item = item_name item; method = m }) (take i methods)) reports
+    → IsCallableReport (record { path = path; item = item_name item; method = method }) report
+    → EachPair IsCallableReport (before ++ map (λ m. record { path = path; item = item_name item; method = m }) (take (i + 1) methods)) (reports ++ report ∷ [])
+one_more_method path item methods i method before reports report lt is so_far here =
+    let as_callable : Method → Callable = λ m. record { path = path; item = item_name item; method = m } in
     let more : map as_callable (take i methods) ++ as_callable method ∷ [] ≡ map as_callable (take (i + 1) methods) =
     ap (λ m. map as_callable (take i methods) ++ as_callable m ∷ []) is ∙ sym (map-append as_callable (take i methods) (get_or methods i method ∷ [])) ∙ sym (ap (map as_callable) (take_more methods i method lt)) in
     let regrouped : (before ++ map as_callable (take i methods)) ++ as_callable method ∷ [] ≡ before ++ map as_callable (take (i + 1) methods) =
@@ -32,17 +32,22 @@ one_more_method item methods i method before reports report lt is so_far here =
     subst (λ (cs : List Callable). EachPair IsCallableReport cs (reports ++ report ∷ [])) regrouped
     (pairs-append IsCallableReport (before ++ map as_callable (take i methods)) (as_callable method ∷ []) reports (report ∷ []) so_far (here, tt))
 
-pub all_methods : (item : Item) (methods : List Method) (i : ℕ) (before : List Callable) (reports : List CallableReport) → methods ≡ methods_of item → length methods ≤ i
-    → EachPair IsCallableReport (before ++ map (λ m. record { item = item_name item; method = m }) (take i methods)) reports
-    → EachPair IsCallableReport (before ++ callables_of item) reports
-all_methods item methods i before reports same le so_far =
-    subst (λ (ms : List Method). EachPair IsCallableReport (before ++ map (λ m. record { item = item_name item; method = m }) ms) reports) (take_all i methods le ∙ same) so_far
+pub all_methods : (path : List (List ℕ)) (item : Item) (methods : List Method) (i : ℕ) (before : List Callable) (reports : List CallableReport) → methods ≡ methods_of item → length methods ≤ i
+    → EachPair IsCallableReport (before ++ map (λ m. record { path = path; item = item_name item; method = m }) (take i methods)) reports
+    → EachPair IsCallableReport (before ++ callables_of path item) reports
+all_methods path item methods i before reports same le so_far =
+    subst (λ (ms : List Method). EachPair IsCallableReport (before ++ map (λ m. record { path = path; item = item_name item; method = m }) ms) reports) (take_all i methods le ∙ same) so_far
 
--- the reports of one more item
-pub one_more_item : (items : List Item) (i : ℕ) (item : Item) (reports : List CallableReport) → i < length items → item ≡ get_or items i item
-    → EachPair IsCallableReport (flat_map callables_of (take i items) ++ callables_of item) reports → EachPair IsCallableReport (flat_map callables_of (take (i + 1) items)) reports
-one_more_item items i item reports lt is h = subst (λ (cs : List Callable). EachPair IsCallableReport cs reports) (flat_map_one_more callables_of items i item lt is) h
+module _ {X : Type 0} (f : X → List Callable) (xs : List X) (i : ℕ) (before : List Callable) (reports : List CallableReport) where
+  -- the reports of one more of a list
+  pub reports_more : (x : X) → i < length xs → x ≡ get_or xs i x
+      → EachPair IsCallableReport ((before ++ flat_map f (take i xs)) ++ f x) reports
+      → EachPair IsCallableReport (before ++ flat_map f (take (i + 1) xs)) reports
+  reports_more x lt is h =
+      subst (λ (cs : List Callable). EachPair IsCallableReport cs reports)
+      (append_assoc before (flat_map f (take i xs)) (f x) ∙ ap (λ cs. before ++ cs) (flat_map_one_more f xs i x lt is)) h
 
-pub all_items : (root items : List Item) (i : ℕ) (reports : List CallableReport) → items ≡ root → length items ≤ i
-    → EachPair IsCallableReport (flat_map callables_of (take i items)) reports → AreReports root reports
-all_items root items i reports same le h = subst (λ (its : List Item). EachPair IsCallableReport (flat_map callables_of its) reports) (take_all i items le ∙ same) h
+  -- those of the whole list
+  pub reports_all : (ys : List X) → xs ≡ ys → length xs ≤ i → EachPair IsCallableReport (before ++ flat_map f (take i xs)) reports
+      → EachPair IsCallableReport (before ++ flat_map f ys) reports
+  reports_all ys same le h = subst (λ (zs : List X). EachPair IsCallableReport (before ++ flat_map f zs) reports) (take_all i xs le ∙ same) h

@@ -9,22 +9,14 @@ use Rattle.bridge_tool.specs.declared.sink.SinkFault.{SinkFault}
 use Rattle.bridge_tool.specs.declared.sink.SinkFault.TheVariants.{Failed, NoMemory}
 use Rattle.bridge_tool.specs.declared.status.Status.{Status}
 use Rattle.bridge_tool.specs.declared.status.Status.TheVariants as status
-use Rattle.bridge_tool.specs.declared.verdict.Verdict.{Verdict}
-use Rattle.bridge_tool.specs.declared.verdict.Verdict.TheVariants.{Declarations, NotJson, NotBuilt}
 use Rattle.bridge_tool.specs.Breaks.{BreakNothing}
-use Rattle.bridge_tool.specs.Judging.{IsSound, Judges}
 use Rattle.bridge_tool.specs.Lines.{Reported, AreRefusedBy, lines}
 use Rattle.bridge_tool.specs.Outside.{Rose, taken_with}
 use Rattle.bridge_tool.specs.Page.{IsPage}
 use Rattle.bridge_tool.specs.Printing.{Delivers}
-use Rattle.bridge_tool.specs.Running.{World, Accepts, Refuses, Spells, Told, AreCommand, Answered, Declines, IsAnswerTo, IsCutOff, IsDeclinedBy, IsTextOf, IsUnfinished, Ran, WereRead, ended_with}
+use Rattle.bridge_tool.specs.Declining.{IsDeclinedBy}
+use Rattle.bridge_tool.specs.Running.{World, Accepts, Refuses, Spells, Told, AreCommand, Answered, Declines, IsAnswerTo, IsCutOff, IsTextOf, IsUnfinished, Ran, WereRead, ended_with}
 use Rattle.bridge_tool.specs.Statuses.{code_of}
-
--- the declarations of a verdict on bytes fit together
-pub judged_is_sound : (bytes : List ℕ) (verdict : Verdict) → Judges bytes verdict → IsSound verdict
-judged_is_sound bytes (Declarations root) h = h.sound
-judged_is_sound bytes NotJson h = tt
-judged_is_sound bytes NotBuilt h = tt
 
 -- what was delivered up to a fault is a first part of the text
 cut_off : {K T : Type 0} (taken : K → Option (List ℕ)) (faults : K → ℕ) (sink sink' : K) (P : List ℕ → Type 0) (text : List ℕ) (printed : Result T SinkFault)
@@ -32,39 +24,39 @@ cut_off : {K T : Type 0} (taken : K → Option (List ℕ)) (faults : K → ℕ) 
 cut_off taken faults sink sink' P text printed d of = inr (record { text = text; of = of; sent = d.sent; rest = d.rest; parts = d.parts; took = d.took })
 
 -- a page was printed
-pub told_page : {K : Type 0} (taken : K → Option (List ℕ)) (faults : K → ℕ) (sink sink' : K) (root : Module) (page : List ℕ) (printed : Result (Unit {0}) SinkFault)
-    → Delivers taken faults sink sink' page printed → BreakNothing root → IsPage root page → Told root (taken sink) (taken sink') (faults sink) (faults sink') (ended_with status.Accepted printed)
-told_page taken faults sink sink' root page (Ok done) d keep is_page = (page, keep, is_page, d.took ∙ ap (taken_with (taken sink)) d.whole, d.steady)
-told_page taken faults sink sink' root page (Err Failed) d keep is_page = (d.failed refl, cut_off taken faults sink sink' (IsTextOf root) page (Err Failed) d (inl (keep, is_page)))
-told_page taken faults sink sink' root page (Err NoMemory) d keep is_page = cut_off taken faults sink sink' (IsTextOf root) page (Err NoMemory) d (inl (keep, is_page))
+pub told_page : {K : Type 0} (taken : K → Option (List ℕ)) (faults : K → ℕ) (sink sink' : K) (modules : List Module) (page : List ℕ) (printed : Result (Unit {0}) SinkFault)
+    → Delivers taken faults sink sink' page printed → BreakNothing modules → IsPage modules page → Told modules (taken sink) (taken sink') (faults sink) (faults sink') (ended_with status.Accepted printed)
+told_page taken faults sink sink' modules page (Ok done) d keep is_page = (page, keep, is_page, d.took ∙ ap (taken_with (taken sink)) d.whole, d.steady)
+told_page taken faults sink sink' modules page (Err Failed) d keep is_page = (d.failed refl, cut_off taken faults sink sink' (IsTextOf modules) page (Err Failed) d (inl (keep, is_page)))
+told_page taken faults sink sink' modules page (Err NoMemory) d keep is_page = cut_off taken faults sink sink' (IsTextOf modules) page (Err NoMemory) d (inl (keep, is_page))
 
 -- reports were printed
-pub told_reports : {K : Type 0} (taken : K → Option (List ℕ)) (faults : K → ℕ) (sink sink' : K) (root : Module) (reports : List Reported) (printed : Result (Unit {0}) SinkFault)
-    → Delivers taken faults sink sink' (lines reports) printed → AreRefusedBy root reports → Told root (taken sink) (taken sink') (faults sink) (faults sink') (ended_with status.Refused printed)
-told_reports taken faults sink sink' root reports (Ok done) d refused = (reports, refused, d.took ∙ ap (taken_with (taken sink)) d.whole, d.steady)
-told_reports taken faults sink sink' root reports (Err Failed) d refused =
-    (d.failed refl, cut_off taken faults sink sink' (IsTextOf root) (lines reports) (Err Failed) d (inr (reports, refused, refl)))
-told_reports taken faults sink sink' root reports (Err NoMemory) d refused =
-    cut_off taken faults sink sink' (IsTextOf root) (lines reports) (Err NoMemory) d (inr (reports, refused, refl))
+pub told_reports : {K : Type 0} (taken : K → Option (List ℕ)) (faults : K → ℕ) (sink sink' : K) (modules : List Module) (reports : List Reported) (printed : Result (Unit {0}) SinkFault)
+    → Delivers taken faults sink sink' (lines reports) printed → AreRefusedBy modules reports → Told modules (taken sink) (taken sink') (faults sink) (faults sink') (ended_with status.Refused printed)
+told_reports taken faults sink sink' modules reports (Ok done) d refused = (reports, refused, d.took ∙ ap (taken_with (taken sink)) d.whole, d.steady)
+told_reports taken faults sink sink' modules reports (Err Failed) d refused =
+    (d.failed refl, cut_off taken faults sink sink' (IsTextOf modules) (lines reports) (Err Failed) d (inr (reports, refused, refl)))
+told_reports taken faults sink sink' modules reports (Err NoMemory) d refused =
+    cut_off taken faults sink sink' (IsTextOf modules) (lines reports) (Err NoMemory) d (inr (reports, refused, refl))
 
 -- a first part of what answers the declarations that bytes spell is one of what answers the bytes
-told_part : (bytes : List ℕ) (root : Module) (taken taken' : Option (List ℕ)) → Spells bytes root
-    → IsCutOff (IsTextOf root) taken taken' → IsCutOff (IsAnswerTo bytes) taken taken'
-told_part bytes root taken taken' spells (inl same) = inl same
-told_part bytes root taken taken' spells (inr part) =
-    inr (record { text = part.text; of = inl (root, spells, part.of); sent = part.sent; rest = part.rest; parts = part.parts; took = part.took })
+told_part : (bytes : List ℕ) (modules : List Module) (taken taken' : Option (List ℕ)) → Spells bytes modules
+    → IsCutOff (IsTextOf modules) taken taken' → IsCutOff (IsAnswerTo bytes) taken taken'
+told_part bytes modules taken taken' spells (inl same) = inl same
+told_part bytes modules taken taken' spells (inr part) =
+    inr (record { text = part.text; of = inl (modules, spells, part.of); sent = part.sent; rest = part.rest; parts = part.parts; took = part.took })
 
 -- what was told of the declarations that bytes spell answers the bytes
-pub answered_told : (bytes : List ℕ) (root : Module) (taken taken' : Option (List ℕ)) (faults faults' : ℕ) (end : Status) → Spells bytes root
-    → Told root taken taken' faults faults' end → Answered bytes taken taken' faults faults' end
-answered_told bytes root taken taken' faults faults' status.Accepted spells t = (root, t.0, record { spells = spells; keeps = t.1 }, t.2, t.3, t.4)
-answered_told bytes root taken taken' faults faults' status.Refused spells t = (root, t.0, spells, t.1, t.2, t.3)
-answered_told bytes root taken taken' faults faults' status.NotDeclarations spells t = absurd t
-answered_told bytes root taken taken' faults faults' status.ReadFailed spells t = absurd t
-answered_told bytes root taken taken' faults faults' status.WriteFailed spells t = (t.0, told_part bytes root taken taken' spells t.1)
-answered_told bytes root taken taken' faults faults' status.NoMemory spells t = told_part bytes root taken taken' spells t
-answered_told bytes root taken taken' faults faults' status.BadWords spells t = absurd t
-answered_told bytes root taken taken' faults faults' status.TooLong spells t = absurd t
+pub answered_told : (bytes : List ℕ) (modules : List Module) (taken taken' : Option (List ℕ)) (faults faults' : ℕ) (end : Status) → Spells bytes modules
+    → Told modules taken taken' faults faults' end → Answered bytes taken taken' faults faults' end
+answered_told bytes modules taken taken' faults faults' status.Accepted spells t = (modules, t.0, record { spells = spells; keeps = t.1 }, t.2, t.3, t.4)
+answered_told bytes modules taken taken' faults faults' status.Refused spells t = (modules, t.0, spells, t.1, t.2, t.3)
+answered_told bytes modules taken taken' faults faults' status.NotDeclarations spells t = absurd t
+answered_told bytes modules taken taken' faults faults' status.ReadFailed spells t = absurd t
+answered_told bytes modules taken taken' faults faults' status.WriteFailed spells t = (t.0, told_part bytes modules taken taken' spells t.1)
+answered_told bytes modules taken taken' faults faults' status.NoMemory spells t = told_part bytes modules taken taken' spells t
+answered_told bytes modules taken taken' faults faults' status.BadWords spells t = absurd t
+answered_told bytes modules taken taken' faults faults' status.TooLong spells t = absurd t
 
 -- a line was printed
 pub answered_line : {K : Type 0} (taken : K → Option (List ℕ)) (faults : K → ℕ) (sink sink' : K) (bytes line : List ℕ) (printed : Result (Unit {0}) SinkFault)
@@ -82,9 +74,9 @@ unfinished old new bytes read (inr part) = inr (bytes, read, part)
 pub ran_answered : (words : List (String Global)) (old new : World) (bytes : List ℕ) → AreCommand words → WereRead old new bytes
     → (end : Status) → Answered bytes old.taken new.taken old.write_faults new.write_faults end → Ran words old new end
 ran_answered words old new bytes command read status.Accepted a =
-    (command, record { bytes = bytes; root = a.0; page = a.1; read = read; accepted = a.2; is_page = a.3; taken = record { taken = a.4; no_fault = a.5 } })
+    (command, record { bytes = bytes; modules = a.0; page = a.1; read = read; accepted = a.2; is_page = a.3; taken = record { taken = a.4; no_fault = a.5 } })
 ran_answered words old new bytes command read status.Refused a =
-    (command, record { bytes = bytes; root = a.0; reports = a.1; read = read; spells = a.2; refused = a.3; taken = record { taken = a.4; no_fault = a.5 } })
+    (command, record { bytes = bytes; modules = a.0; reports = a.1; read = read; spells = a.2; refused = a.3; taken = record { taken = a.4; no_fault = a.5 } })
 ran_answered words old new bytes command read status.NotDeclarations a =
     (command, record { bytes = bytes; line = a.0; read = read; declined = a.1; taken = record { taken = a.2; no_fault = a.3 } })
 ran_answered words old new bytes command read status.ReadFailed a = absurd a

@@ -4,7 +4,7 @@
 --
 -- The return names `'a`. The receiver carries `'a` itself, `y` carries `'b`, which outlives `'a`, and `z` carries `'c`, which doesn't:
 -- the list of `'a` is `this, y`.
-use Rattle.std.specs.Prelude.{◌≡◌, ℕ, ◌+◌, List, [], ◌∷◌, ◌++◌, map, Any}
+use Rattle.std.specs.Prelude.{◌≡◌, ℕ, ◌+◌, List, [], ◌∷◌, ◌++◌, map, Any, slice_get}
 use Rattle.std.specs.List.{flat_map}
 use Rattle.std.specs.Option.{option_to_list}
 use Rattle.bridge_ast.specs.declared.lifetimes.Lifetime.{Lifetime}
@@ -13,6 +13,7 @@ use Rattle.bridge_ast.specs.declared.types.TypeName.{out-TypeName}
 use Rattle.bridge_ast.specs.declared.methods.Method.{Method}
 use Rattle.bridge_ast.specs.declared.methods.Param.{Param}
 use Rattle.bridge_ast.specs.declared.modules.Item.{Item}
+use Rattle.bridge_ast.specs.declared.modules.Module.{Module}
 use Rattle.bridge_ast.specs.Environments.{lifetime_names, declared_longer}
 use Rattle.bridge_ast.specs.Names.{item_name}
 use Rattle.hir_life.specs.Outlives.{Outlives}
@@ -24,7 +25,8 @@ use Rattle.bridge_tool.specs.declared.report.ReportEdgeKind.TheVariants.{Opaque}
 use Rattle.bridge_tool.specs.declared.report.ReturnedLifetime.{ReturnedLifetime}
 use Rattle.bridge_tool.specs.declared.report.CallableReport.{CallableReport}
 use Rattle.bridge_tool.specs.Checks.{lifetime_name, receiver_lifetimes, returned_lifetimes, type_lifetimes}
-use Rattle.bridge_tool.specs.Sound.{methods_of}
+use Rattle.bridge_tool.specs.Methods.{methods_of}
+use Rattle.bridge_tool.specs.Walking.{of_found, walk_order}
 use Rattle.bridge_tool.specs.Chosen.{Chosen, EachPair}
 use Rattle.bridge_tool.specs.Index.{number_of}
 
@@ -76,22 +78,32 @@ pub record IsReturned (method : Method) (t : ℕ) (returned : ReturnedLifetime) 
   pub list : IsList method t returned.leaves
   pub edges : AreEdges method t returned.edges
 
--- a method with the name of its item
+-- a method with the path of its module and the name of its item
 pub record Callable : Type 0 where
+  pub path : List (List ℕ)
   pub item : List ℕ
   pub method : Method
 
-abbrev pub callables_of : Item → List Callable
-callables_of item = map (λ method. record { item = item_name item; method = method }) (methods_of item)
+-- the methods of an item of the module of that path
+abbrev pub callables_of : List (List ℕ) → Item → List Callable
+callables_of path item = map (λ method. record { path = path; item = item_name item; method = method }) (methods_of item)
 
--- the methods of the items, in order
-abbrev pub callables : List Item → List Callable
-callables items = flat_map callables_of items
+-- the methods of the items of a module, in order
+abbrev pub callables_in : Module → List Callable
+callables_in m = flat_map (callables_of m.path) m.items
+
+-- those of the module of a number
+abbrev pub callables_at : List Module → ℕ → List Callable
+callables_at modules number = of_found callables_in (slice_get modules number)
+
+-- those of all modules, in the order in which modules are gone through
+abbrev pub callables : List Module → List Callable
+callables modules = flat_map (callables_at modules) (walk_order modules)
 
 -- what may be borrowed under each lifetime that the callable's return names
 abbrev pub IsCallableReport : Callable → CallableReport → Type 0
 IsCallableReport callable report = EachPair (IsReturned callable.method) (named callable.method) report.returned
 
 -- the reports of the callables, one each
-abbrev pub AreReports : List Item → List CallableReport → Type 0
-AreReports items reports = EachPair IsCallableReport (callables items) reports
+abbrev pub AreReports : List Module → List CallableReport → Type 0
+AreReports modules reports = EachPair IsCallableReport (callables modules) reports

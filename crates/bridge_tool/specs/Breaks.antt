@@ -8,12 +8,12 @@ use Rattle.bridge_tool.specs.rules.BadIdent.{BadIdent}
 use Rattle.bridge_tool.specs.rules.UnresolvedPath.{UnresolvedPath}
 use Rattle.bridge_tool.specs.rules.LifetimeUnknown.{LifetimeUnknown}
 
--- the declarations break the rule at the place, with the arguments of its text
-abbrev pub Breaks : Module → Rule → Place → List (List ℕ) → Type 0
-Breaks root rule.BadIdent = BadIdent root
-Breaks root rule.UnresolvedPath = UnresolvedPath root
-Breaks root rule.LifetimeUnknown = LifetimeUnknown root
+-- the declarations of the modules break the rule at the place, with the arguments of its text
+abbrev pub Breaks : List Module → Rule → Place → List (List ℕ) → Type 0
+Breaks modules rule.BadIdent = BadIdent modules
+Breaks modules rule.UnresolvedPath = UnresolvedPath modules
+Breaks modules rule.LifetimeUnknown = LifetimeUnknown modules
 
 -- the declarations break no rule
-abbrev pub BreakNothing : Module → Type 0
-BreakNothing root = (rule : Rule) (place : Place) (args : List (List ℕ)) → ¬ (Breaks root rule place args)
+abbrev pub BreakNothing : List Module → Type 0
+BreakNothing modules = (rule : Rule) (place : Place) (args : List (List ℕ)) → ¬ (Breaks modules rule place args)

@@ -1,5 +1,5 @@
 -- What rules test: the names, paths and lifetimes of declarations, each with the place where it stands.
-use Rattle.std.specs.Prelude.{ℕ, List, [], ◌∷◌, ◌++◌, map, Option, Some, None}
+use Rattle.std.specs.Prelude.{ℕ, List, [], ◌∷◌, ◌++◌, map, Option, Some, None, slice_get}
 use Rattle.std.specs.List.{flat_map, Contains}
 use Rattle.bridge_ast.specs.declared.lifetimes.Lifetime.{Lifetime}
 use Rattle.bridge_ast.specs.declared.lifetimes.Lifetime.TheVariants.{Static, Named, Anonymous}
@@ -10,11 +10,15 @@ use Rattle.bridge_ast.specs.declared.types.TypeName.{TypeName, out-TypeName}
 use Rattle.bridge_ast.specs.declared.types.TypeName.TheOpen.{TypeName-F}
 use Rattle.bridge_ast.specs.declared.methods.Method.{Method}
 use Rattle.bridge_ast.specs.declared.methods.SelfParam.{SelfParam}
+use Rattle.bridge_ast.specs.declared.environment.walk.ItemPlace.{ItemPlace}
 use Rattle.bridge_ast.specs.declared.modules.Item.{Item}
+use Rattle.bridge_ast.specs.declared.modules.Module.{Module}
 use Rattle.bridge_ast.specs.Environments.{lifetime_names}
 use Rattle.bridge_ast.specs.Ident.{IsIdent}
-use Rattle.bridge_ast.specs.Names.{item_name, Names}
-use Rattle.bridge_tool.specs.Sound.{methods_of}
+use Rattle.bridge_ast.specs.Names.{item_name, Place}
+use Rattle.bridge_ast.specs.Types.{NamesType}
+use Rattle.bridge_tool.specs.Methods.{methods_of}
+use Rattle.bridge_tool.specs.Walking.{of_found, walk_order}
 
 -- something that a rule tests
 pub data Check : Type 0 where
@@ -94,26 +98,35 @@ method_checks method =
     map name (method_names method)
     ++ (map path (method_paths method) ++ map (lifetime method.lifetime_env) (flat_map lifetime_name (method_lifetimes method)))
 
--- what is tested, and the text of its item and of its method where there is one
+-- what is tested, and where: the number of the module, and the place
 pub record Tested : Type 0 where
-  pub item : List ℕ
-  pub method : Option (List ℕ)
+  pub number : ℕ
+  pub place : Place
   pub check : Check
 
-abbrev pub tested_in_method : List ℕ → Method → List Tested
-tested_in_method item method = map (λ check. record { item = item; method = Some method.name; check = check }) (method_checks method)
+abbrev pub tested_in_method : ℕ → List (List ℕ) → List ℕ → Method → List Tested
+tested_in_method number above item method =
+    map (λ check. record { number = number; place = record { path = above; item = item; method = Some method.name }; check = check }) (method_checks method)
 
-abbrev pub tested_in_item : Item → List Tested
-tested_in_item item =
-    record { item = item_name item; method = None; check = name (item_name item) }
-    ∷ flat_map (tested_in_method (item_name item)) (methods_of item)
+-- the name of an item, and then what its methods have
+abbrev pub tested_in_item : ℕ → List (List ℕ) → Item → List Tested
+tested_in_item number above item =
+    record { number = number; place = record { path = above; item = item_name item; method = None }; check = name (item_name item) }
+    ∷ flat_map (tested_in_method number above (item_name item)) (methods_of item)
 
--- all that the rules test, in the order of the items
-abbrev pub tested_in : List Item → List Tested
-tested_in items = flat_map tested_in_item items
+abbrev pub tested_in_module : ℕ → Module → List Tested
+tested_in_module number m = flat_map (tested_in_item number m.path) m.items
 
--- the check fails: the name is no identifier, the path names nothing, or the lifetime isn't declared
-abbrev pub Fails : List Item → Check → Type 0
-Fails items (name n) = ¬ (IsIdent n)
-Fails items (path p) = ¬ ((place : ℕ) × Names items p place)
-Fails items (lifetime env l) = ¬ (Contains (lifetime_names env) l)
+-- what is tested in the module of a number
+abbrev pub tested_at_number : List Module → ℕ → List Tested
+tested_at_number modules number = of_found (tested_in_module number) (slice_get modules number)
+
+-- all that the rules test, in the order in which modules are gone through, and in each of the items
+abbrev pub tested_in : List Module → List Tested
+tested_in modules = flat_map (tested_at_number modules) (walk_order modules)
+
+-- the check fails in the module of a number: the name is no identifier, the path names no type there, or the lifetime isn't declared
+abbrev pub Fails : List Module → ℕ → Check → Type 0
+Fails modules number (name n) = ¬ (IsIdent n)
+Fails modules number (path p) = (item : Item) (named : ItemPlace) → ¬ NamesType modules number p.segments item named
+Fails modules number (lifetime env l) = ¬ (Contains (lifetime_names env) l)

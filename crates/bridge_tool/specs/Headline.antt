@@ -15,21 +15,21 @@ pub record IsUndisturbed (words : List (String Global)) (old new : World) (had :
   pub no_read_failed : ¬ (Rose old.read_faults new.read_faults)
   pub no_write_failed : ¬ (Rose old.write_faults new.write_faults)
 
--- What the program does with the declarations of a root that its source spells.
-pub record Headline (root : Module) (old new : World) (status : ℕ) : Type 0 where
+-- What the program does with the declarations that its source spells.
+pub record Headline (modules : List Module) (old new : World) (status : ℕ) : Type 0 where
   -- it ends with 0 exactly where no declaration breaks a rule
-  pub accepts : (status ≡ 0) ↔ BreakNothing root
+  pub accepts : (status ≡ 0) ↔ BreakNothing modules
   -- and prints their page, nothing before and nothing after
-  pub page : status ≡ 0 → (text : List ℕ) × IsPage root text × (new.taken ≡ taken_with old.taken text)
+  pub page : status ≡ 0 → (text : List ℕ) × IsPage modules text × (new.taken ≡ taken_with old.taken text)
   -- otherwise it ends with 1
   pub refuses : status ≢ 0 → status ≡ 1
   -- and prints the lines of reports, each of a broken rule and its declaration, with one at each broken place
-  pub reports : status ≡ 1 → (reports : List Reported) × AreRefusedBy root reports × (new.taken ≡ taken_with old.taken (lines reports))
+  pub reports : status ≡ 1 → (reports : List Reported) × AreRefusedBy modules reports × (new.taken ≡ taken_with old.taken (lines reports))
   -- the source has no bytes left
   pub none_left : new.left ≡ Some []
 
 -- What is answered, but for want of memory, to bytes that the source tells, by what they spell.
 pub record IsComplete (had : List ℕ) (status : ℕ) : Type 0 where
-  pub accepted : (root : Module) → Spells had root → BreakNothing root → (status ≡ 0) ⊎ (status ≡ 5)
-  pub refused : (root : Module) → Spells had root → ¬ (BreakNothing root) → (status ≡ 1) ⊎ (status ≡ 5)
-  pub declined : ((root : Module) → ¬ (Spells had root)) → (status ≡ 2) ⊎ (status ≡ 5)
+  pub accepted : (modules : List Module) → Spells had modules → BreakNothing modules → (status ≡ 0) ⊎ (status ≡ 5)
+  pub refused : (modules : List Module) → Spells had modules → ¬ (BreakNothing modules) → (status ≡ 1) ⊎ (status ≡ 5)
+  pub declined : ((modules : List Module) → ¬ (Spells had modules)) → (status ≡ 2) ⊎ (status ≡ 5)

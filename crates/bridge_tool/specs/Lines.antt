@@ -87,22 +87,18 @@ arg_of (path p) = path_text p
 arg_of (lifetime env l) = l
 
 -- a failed test as a report
-abbrev pub reported : List (List ℕ) → Tested → Reported
-reported path_there tested = record {
-  rule = rule_of tested.check;
-  place = record { path = path_there; item = tested.item; method = tested.method };
-  args = arg_of tested.check ∷ [];
-}
+abbrev pub reported : Tested → Reported
+reported tested = record { rule = rule_of tested.check; place = tested.place; args = arg_of tested.check ∷ [] }
 
 -- the reports of declarations: at least one, each of a broken rule, and one at each place that breaks a rule
-pub record AreRefusedBy (root : Module) (reports : List Reported) : Type 0 where
+pub record AreRefusedBy (modules : List Module) (reports : List Reported) : Type 0 where
   pub some : 1 ≤ length reports
   -- each report names a rule that is broken, its place and its arguments
-  pub each : (report : Reported) → Contains reports report → Breaks root report.rule report.place report.args
+  pub each : (report : Reported) → Contains reports report → Breaks modules report.rule report.place report.args
   -- each broken rule is reported, at its place and with its arguments
-  pub every : (broken : Rule) (place : Place) (args : List (List ℕ)) → Breaks root broken place args
+  pub every : (broken : Rule) (place : Place) (args : List (List ℕ)) → Breaks modules broken place args
       → Contains reports (record { rule = broken; place = place; args = args })
   -- they are those of the tests that fail, each once and in order
   pub failed : List Tested
-  pub chosen : Chosen (TestFails root.items) (tested_in root.items) failed
-  pub in_order : reports ≡ map (reported root.path) failed
+  pub chosen : Chosen (TestFails modules) (tested_in modules) failed
+  pub in_order : reports ≡ map reported failed

@@ -62,9 +62,13 @@ edges_line method returned = codes "  edges:" ++ listed (edge_text method) retur
 abbrev pub returned_text : Method → ReturnedLifetime → List ℕ
 returned_text method returned = paths_line method returned ++ edges_line method returned
 
--- the item and the method of a callable
+-- each segment of a module's path with `::` after it
+abbrev pub prefix_text : List (List ℕ) → List ℕ
+prefix_text path = flat_map (λ segment. segment ++ codes "::") path
+
+-- the module, the item and the method of a callable
 abbrev pub place_text : Callable → List ℕ
-place_text callable = callable.item ++ codes "::" ++ callable.method.name
+place_text callable = prefix_text callable.path ++ callable.item ++ codes "::" ++ callable.method.name
 
 abbrev pub callable_text : Callable → CallableReport → List ℕ
 callable_text callable report =
@@ -86,6 +90,6 @@ abbrev pub page_of : List Callable → List CallableReport → List ℕ
 page_of callables reports = callables_text callables reports ++ (codes "ok " ++ decimal (length callables) ++ codes "\n")
 
 -- the text is the page of the declarations
-abbrev pub IsPage : Module → List ℕ → Type 0
-IsPage root text =
-    (reports : List CallableReport) × AreReports root.items reports × (text ≡ page_of (callables root.items) reports)
+abbrev pub IsPage : List Module → List ℕ → Type 0
+IsPage modules text =
+    (reports : List CallableReport) × AreReports modules reports × (text ≡ page_of (callables modules) reports)

@@ -1,258 +1,191 @@
--- What a JSON value of the form is read as: one function per object, with none where the value spells nothing.
-use Rattle.std.specs.Prelude.{◌≡◌, ℕ, List, [], ◌∷◌, codes, Bool, true, false, not, ◌&&◌, cond, is_some, Option, Some, None, option_map, option_and_then, Result, Ok, Err, ⊤}
+-- Reading a JSON value: what it is read as, or its first fault.
+use Rattle.std.specs.Prelude.{◌≡◌, ℕ, ◌+◌, List, [], ◌∷◌, Bool, true, false, ◌||◌, ◌&&◌, Option, Some, None, option_and_then, Result, Ok, Err, ℤ, nat_lt, if◌then◌else◌}
 use Rattle.std.specs.Str.{bytes_eq}
-use Rattle.serde_json.specs.Data.{Data, Items, no_items, item}
-use Rattle.serde_json.specs.Find.{as_number, as_u64, as_str, as_array}
-use Rattle.bridge_ast.specs.declared.lifetimes.Lifetime.TheVariants.{Named}
-use Rattle.bridge_ast.specs.declared.lifetimes.LifetimeNode.{LifetimeNode}
-use Rattle.bridge_ast.specs.declared.paths.PathType.{PathType}
-use Rattle.bridge_ast.specs.declared.types.TypeName.{TypeName}
-use Rattle.bridge_ast.specs.declared.types.Mutability.TheVariants.{Immutable}
-use Rattle.bridge_ast.specs.declared.methods.Method.{Method}
-use Rattle.bridge_ast.specs.declared.methods.Param.{Param}
-use Rattle.bridge_ast.specs.declared.methods.SelfParam.{SelfParam}
-use Rattle.bridge_ast.specs.declared.modules.Item.{Item}
-use Rattle.bridge_ast.specs.declared.modules.Module.{Module}
-use Rattle.bridge_tool.specs.declared.keys.Key.TheVariants as key
-use Rattle.bridge_tool.specs.declared.read.methods.Signature.{Signature}
+use Rattle.serde_json.specs.Data.{Data, null, boolean, number, string, array, object, Items, no_items, item, Members, no_members, member}
+use Rattle.serde_json.specs.Find.{get, as_number, as_u64, as_i64, as_bool}
+use Rattle.bridge_tool.specs.declared.read.keys.Key.{Key}
+use Rattle.bridge_tool.specs.declared.read.fault.InputKind.{InputKind}
+use Rattle.bridge_tool.specs.declared.read.fault.InputKind.TheVariants as kind
+use Rattle.bridge_tool.specs.declared.read.fault.Fault.{Fault}
 use Rattle.bridge_tool.specs.declared.read.fault.ReadFault.{ReadFault}
-use Rattle.bridge_tool.specs.declared.read.fault.ReadFault.TheVariants.{NotJson, FormNotBuilt, NoMemory}
-use Rattle.bridge_tool.specs.Absent.{no_attrs, no_docs}
-use Rattle.bridge_tool.specs.Keys.{under, text_under, has_only}
-use Rattle.bridge_tool.specs.Spelling.{one_segment, reference_to, box_of, opaque_of, method_keys}
+use Rattle.bridge_tool.specs.declared.read.fault.ReadFault.TheVariants.{Bad, NoMemory}
+use Rattle.bridge_tool.specs.declared.read.pointer.Step.{Step}
+use Rattle.bridge_tool.specs.declared.read.pointer.Step.TheVariants as step
+use Rattle.bridge_tool.specs.Keys.{key_text}
 
--- what a step gives goes into the next
+-- a fault of the value itself
+abbrev pub here : InputKind → Fault
+here kind = record { kind = kind; at = [] }
+
+-- a fault of a value inside, as one of the value around it
+abbrev pub within : Step → Fault → Fault
+within step fault = record { kind = fault.kind; at = step ∷ fault.at }
+
+-- what is read of a value inside, or the fault as one of the value around it
+abbrev pub inside : {A : Type 0} → Step → Result A Fault → Result A Fault
+inside step (Ok x) = Ok x
+inside step (Err fault) = Err (within step fault)
+
 infixl 10 ◌>>=◌
-abbrev pub ◌>>=◌ : {A B : Type 0} → Option A → (A → Option B) → Option B
-None >>= f = None
-(Some x) >>= f = f x
+abbrev pub ◌>>=◌ : {A B : Type 0} → Result A Fault → (A → Result B Fault) → Result B Fault
+(Ok x) >>= f = f x
+(Err fault) >>= f = Err fault
 
--- a reader stops so: at JSON that spells nothing, or for want of memory
-abbrev pub Stops : {A : Type 0} → ReadFault → Option A → Type 0
-Stops NotJson read = ⊥
-Stops FormNotBuilt read = read ≡ None
+-- a reader answers so, unless memory ran out
+abbrev pub Stops : {A : Type 0} → ReadFault → Result A Fault → Type 0
+Stops (Bad fault) read = read ≡ Err fault
 Stops NoMemory read = Unit {0}
 
--- a reader answers so, seen by view: what is read, unless memory ran out
-abbrev pub GivesBy : {X A : Type 0} → (X → A) → Result X ReadFault → Option A → Type 0
-GivesBy view (Ok x) read = read ≡ Some (view x)
+abbrev pub GivesBy : {X A : Type 0} → (X → A) → Result X ReadFault → Result A Fault → Type 0
+GivesBy view (Ok x) read = read ≡ Ok (view x)
 GivesBy view (Err fault) read = Stops fault read
 
--- the same, seen as it is
-abbrev pub Gives : {A : Type 0} → Result A ReadFault → Option A → Type 0
-Gives (Ok x) read = read ≡ Some x
+abbrev pub Gives : {A : Type 0} → Result A ReadFault → Result A Fault → Type 0
+Gives (Ok x) read = read ≡ Ok x
 Gives (Err fault) read = Stops fault read
 
--- goes on where a test holds
-abbrev pub kept : Bool → Option ⊤
-kept true = Some tt
-kept false = None
+-- a value that isn't null
+abbrev pub not_null : Data → Option Data
+not_null null = None
+not_null (boolean b) = Some (boolean b)
+not_null (number n) = Some (number n)
+not_null (string s) = Some (string s)
+not_null (array ds) = Some (array ds)
+not_null (object ms) = Some (object ms)
+
+-- what stands under a key of an object; an absent key and null stand for nothing
+unfoldable pub under : Key → Data → Option Data
+under k d = option_and_then not_null (get (key_text k) d)
+
+abbrev pub at_key : Key → Step
+at_key k = step.Member (key_text k)
+
+-- ---- parts of objects
+
+abbrev pub needed_of : {A : Type 0} → (Data → Result A Fault) → Key → Option Data → Result A Fault
+needed_of read key None = Err (here kind.MissingKey)
+needed_of read key (Some d) = inside (at_key key) (read d)
+
+abbrev pub needed : {A : Type 0} → (Data → Result A Fault) → Key → Data → Result A Fault
+needed read key d = needed_of read key (under key d)
+
+abbrev pub option_ok : {A : Type 0} → Result A Fault → Result (Option A) Fault
+option_ok (Ok x) = Ok (Some x)
+option_ok (Err fault) = Err fault
+
+abbrev pub optional_of : {A : Type 0} → (Data → Result A Fault) → Key → Option Data → Result (Option A) Fault
+optional_of read key None = Ok None
+optional_of read key (Some d) = option_ok (inside (at_key key) (read d))
+
+abbrev pub optional : {A : Type 0} → (Data → Result A Fault) → Key → Data → Result (Option A) Fault
+optional read key d = optional_of read key (under key d)
+
+abbrev pub held_of : {A : Type 0} → A → (Data → Result A Fault) → Key → Option Data → Result A Fault
+held_of absent read key None = Ok absent
+held_of absent read key (Some d) = inside (at_key key) (read d)
+
+abbrev pub held : {A : Type 0} → A → (Data → Result A Fault) → Key → Data → Result A Fault
+held absent read key d = held_of absent read key (under key d)
 
 -- ---- lists
 
--- the entries of a list, and none where nothing stands
-unfoldable pub entries_of : Option Data → Option Items
-entries_of None = Some no_items
-entries_of (Some d) = as_array d
+abbrev pub each_of : {A : Type 0} → (Data → Result A Fault) → ℕ → Items → Result (List A) Fault
+each_of read n no_items = Ok []
+each_of read n (item d ds) = do
+  first ← inside (step.Index n) (read d)
+  others ← each_of read (n + 1) ds
+  Ok (first ∷ others)
 
--- what each entry is read as, where each is read
-abbrev pub each_of : {A : Type 0} → (Data → Option A) → Items → Option (List A)
-each_of read no_items = Some []
-each_of read (item d ds) = do
-  first ← read d
-  others ← each_of read ds
-  Some (first ∷ others)
+unfoldable pub entries_of : Data → Result Items Fault
+entries_of null = Err (here kind.WrongForm)
+entries_of (boolean b) = Err (here kind.WrongForm)
+entries_of (number n) = Err (here kind.WrongForm)
+entries_of (string s) = Err (here kind.WrongForm)
+entries_of (array ds) = Ok ds
+entries_of (object ms) = Err (here kind.WrongForm)
 
--- a list that may be absent
-abbrev pub list_of : {A : Type 0} → (Data → Option A) → Option Data → Option (List A)
-list_of read found = do
-  entries ← entries_of found
-  each_of read entries
+abbrev pub list_of : {A : Type 0} → (Data → Result A Fault) → Data → Result (List A) Fault
+list_of read d = do
+  entries ← entries_of d
+  each_of read 0 entries
 
--- the entry of a list with one
-abbrev pub sole : Items → Option Data
-sole no_items = None
-sole (item d no_items) = Some d
-sole (item d (item e ds)) = None
+-- ---- keys
 
--- the entry of a value that is such a list
-unfoldable pub sole_of : Data → Option Data
-sole_of d = do
-  entries ← as_array d
-  sole entries
+abbrev pub is_one_of : List Key → List ℕ → Bool
+is_one_of [] text = false
+is_one_of (k ∷ ks) text = bytes_eq (key_text k) text || is_one_of ks text
 
--- a part that may be absent
-abbrev pub optional_of : {A : Type 0} → (Data → Option A) → Option Data → Option (Option A)
-optional_of read None = Some None
-optional_of read (Some d) = option_map Some (read d)
+abbrev pub unless_known : Bool → List ℕ → Result (Unit {0}) Fault → Result (Unit {0}) Fault
+unless_known true text others = others
+unless_known false text others = Err (within (step.Member text) (here kind.UnknownKey))
 
--- a whole number
-abbrev pub number_of : Data → Option ℕ
-number_of d = option_and_then as_u64 (as_number d)
+abbrev pub known : List Key → Members → Result (Unit {0}) Fault
+known keys no_members = Ok tt
+known keys (member text d ms) = unless_known (is_one_of keys text) text (known keys ms)
 
--- ---- types
+abbrev pub all_of : List Key → Members → Bool
+all_of keys no_members = true
+all_of keys (member text d ms) = is_one_of keys text && all_of keys ms
 
--- {"segments": [text]}: the segment
-unfoldable pub path_of : Data → Option (List ℕ)
-path_of d = do
-  tested ← kept (has_only (key.Segments ∷ []) d)
-  segments ← under key.Segments d
-  segment ← sole_of segments
-  as_str segment
+-- an object in which no other keys stand
+unfoldable pub has_only : List Key → Data → Bool
+has_only keys null = false
+has_only keys (boolean b) = false
+has_only keys (number n) = false
+has_only keys (string s) = false
+has_only keys (array ds) = false
+has_only keys (object ms) = all_of keys ms
 
--- a segment that is the name of an item, and no step to another module
-unfoldable pub is_item_segment : List ℕ → Bool
-is_item_segment segment = not (bytes_eq segment (codes "crate")) && (not (bytes_eq segment (codes "self")) && not (bytes_eq segment (codes "super")))
+unfoldable pub only : List Key → Data → Result (Unit {0}) Fault
+only keys null = Err (here kind.WrongForm)
+only keys (boolean b) = Err (here kind.WrongForm)
+only keys (number n) = Err (here kind.WrongForm)
+only keys (string s) = Err (here kind.WrongForm)
+only keys (array ds) = Err (here kind.WrongForm)
+only keys (object ms) = known keys ms
 
--- the name of a lifetime that has one
-unfoldable pub is_lifetime_name : List ℕ → Bool
-is_lifetime_name name = not (bytes_eq name (codes "static")) && not (bytes_eq name (codes "_"))
+-- ---- texts and numbers
 
--- {"named": path}: the segment of the path
-unfoldable pub named_of : Data → Option (List ℕ)
-named_of d = do
-  tested ← kept (has_only (key.Named ∷ []) d)
-  path ← under key.Named d
-  segment ← path_of path
-  in_root ← kept (is_item_segment segment)
-  Some segment
+unfoldable pub text_of : Data → Result (List ℕ) Fault
+text_of null = Err (here kind.WrongForm)
+text_of (boolean b) = Err (here kind.WrongForm)
+text_of (number n) = Err (here kind.WrongForm)
+text_of (string s) = Ok s
+text_of (array ds) = Err (here kind.WrongForm)
+text_of (object ms) = Err (here kind.WrongForm)
 
--- the text of a lifetime that has a name
-unfoldable pub lifetime_of : Data → Option (List ℕ)
-lifetime_of d = do
-  name ← as_str d
-  named ← kept (is_lifetime_name name)
-  Some name
+abbrev pub or_wrong : {A : Type 0} → Option A → Result A Fault
+or_wrong (Some x) = Ok x
+or_wrong None = Err (here kind.WrongForm)
 
--- {"lifetime": text, "to": {"named": path}}
-unfoldable pub reference_of : Data → Option TypeName
-reference_of d = do
-  tested ← kept (has_only (key.Lifetime ∷ key.To ∷ []) d)
-  lifetime ← under key.Lifetime d
-  name ← lifetime_of lifetime
-  to ← under key.To d
-  segment ← named_of to
-  Some (reference_to name segment)
+unfoldable pub number_of : Data → Result ℕ Fault
+number_of d = or_wrong (option_and_then as_u64 (as_number d))
 
--- {"ref": reference}
-unfoldable pub ref_of : Data → Option TypeName
-ref_of d = do
-  tested ← kept (has_only (key.Ref ∷ []) d)
-  reference ← under key.Ref d
-  reference_of reference
+unfoldable pub flag_of : Data → Result Bool Fault
+flag_of d = or_wrong (as_bool d)
 
--- {"box": {"named": path}}
-unfoldable pub boxed_of : Data → Option TypeName
-boxed_of d = do
-  tested ← kept (has_only (key.Boxed ∷ []) d)
-  named ← under key.Boxed d
-  segment ← named_of named
-  Some (box_of segment)
+-- a test of what was read
+abbrev pub or_wrong_at : {A : Type 0} → List Step → Option A → Result A Fault
+or_wrong_at at (Some x) = Ok x
+or_wrong_at at None = Err (record { kind = kind.WrongForm; at = at })
 
--- a reference where `ref` stands, and else a box
-unfoldable pub return_of : Data → Option TypeName
-return_of d = cond (is_some (under key.Ref d)) (ref_of d) (boxed_of d)
+abbrev pub refined_of : {A B : Type 0} → (A → Option B) → (Data → Result A Fault) → Data → Result B Fault
+refined_of test read d = read d >>= (λ x. or_wrong_at [] (test x))
 
--- ---- methods
+-- a list that isn't empty
+abbrev pub not_empty : {A : Type 0} → List A → Option (List A)
+not_empty [] = None
+not_empty (x ∷ xs) = Some (x ∷ xs)
 
--- the path of the item of that name
-unfoldable pub path_to : List ℕ → Data → Option PathType
-path_to name d = do
-  segment ← path_of d
-  same ← kept (bytes_eq segment name)
-  Some (one_segment segment)
+abbrev pub some_of : {A : Type 0} → (Data → Result (List A) Fault) → Data → Result (List A) Fault
+some_of read = refined_of not_empty read
 
--- {"name": text, "longer": [numbers], "shorter": [numbers]}
-unfoldable pub node_of : Data → Option LifetimeNode
-node_of d = do
-  tested ← kept (has_only (key.Name ∷ key.Longer ∷ key.Shorter ∷ []) d)
-  name ← text_under key.Name d
-  longer ← list_of number_of (under key.Longer d)
-  shorter ← list_of number_of (under key.Shorter d)
-  Some (record { name = name; longer = longer; shorter = shorter })
+-- a whole number below 256
+abbrev pub below_256 : ℕ → Option ℕ
+below_256 n = if nat_lt n 256 then Some n else None
 
--- {"name": text, "ty": {"ref": reference}}
-unfoldable pub param_of : Data → Option Param
-param_of d = do
-  tested ← kept (has_only (key.Name ∷ key.Ty ∷ []) d)
-  name ← text_under key.Name d
-  found ← under key.Ty d
-  ty ← ref_of found
-  Some (record { name = name; ty = ty; attrs = no_attrs })
+unfoldable pub byte_of : Data → Result ℕ Fault
+byte_of d = or_wrong (option_and_then below_256 (option_and_then as_u64 (as_number d)))
 
--- {"lifetime": text}: the name of the lifetime
-unfoldable pub borrow_of : Data → Option (List ℕ)
-borrow_of d = do
-  tested ← kept (has_only (key.Lifetime ∷ []) d)
-  lifetime ← under key.Lifetime d
-  lifetime_of lifetime
-
--- {"reference": borrow, "path": the path of the item}
-unfoldable pub receiver_of : List ℕ → Data → Option SelfParam
-receiver_of of_item d = do
-  tested ← kept (has_only (key.Reference ∷ key.Path ∷ []) d)
-  reference ← under key.Reference d
-  lifetime ← borrow_of reference
-  found ← under key.Path d
-  path ← path_to of_item found
-  Some (record { reference = Some (Named lifetime, Immutable); path_type = path; attrs = no_attrs })
-
--- the lifetimes, the parameters and the return of a method
-unfoldable pub signature_of : Data → Option Signature
-signature_of d = do
-  nodes ← list_of node_of (under key.Lifetimes d)
-  params ← list_of param_of (under key.Params d)
-  returned ← optional_of return_of (under key.Ret d)
-  Some (record { nodes = nodes; params = params; return_type = returned })
-
--- the method of these parts, of whose other parts nothing is written
-abbrev pub method_by : List ℕ → PathType → Option SelfParam → Signature → Method
-method_by name path receiver signature =
-    record {
-      name = name;
-      abi_name = name;
-      self_type = path;
-      self_param = receiver;
-      lifetime_env = record { nodes = signature.nodes };
-      params = signature.params;
-      return_type = signature.return_type;
-      docs = no_docs;
-      attrs = no_attrs;
-    }
-
--- a method of the item of that name
-unfoldable pub method_of : List ℕ → Data → Option Method
-method_of of_item d = do
-  tested ← kept (has_only method_keys d)
-  name ← text_under key.Name d
-  found ← under key.SelfType d
-  path ← path_to of_item found
-  receiver ← optional_of (receiver_of of_item) (under key.Receiver d)
-  signature ← signature_of d
-  Some (method_by name path receiver signature)
-
--- ---- items
-
--- {"kind": "opaque", "name": text, "methods": [methods]}
-unfoldable pub item_of : Data → Option Item
-item_of d = do
-  tested ← kept (has_only (key.Kind ∷ key.Name ∷ key.Methods ∷ []) d)
-  kind ← text_under key.Kind d
-  opaque ← kept (bytes_eq kind (codes "opaque"))
-  name ← text_under key.Name d
-  methods ← list_of (method_of name) (under key.Methods d)
-  Some (opaque_of name methods)
-
--- {"items": [items]}, the root
-unfoldable pub root_of : Data → Option Module
-root_of d = do
-  tested ← kept (has_only (key.Items ∷ []) d)
-  items ← list_of item_of (under key.Items d)
-  Some (record { path = []; attrs = no_attrs; items = items; aliases = [] })
-
--- {"root": the root}
-unfoldable pub input_of : Data → Option Module
-input_of d = do
-  tested ← kept (has_only (key.Root ∷ []) d)
-  root ← under key.Root d
-  root_of root
+unfoldable pub integer_of : Data → Result ℤ Fault
+integer_of d = or_wrong (option_and_then as_i64 (as_number d))

@@ -1,6 +1,6 @@
 -- Lists of faults, as reports of the tests that failed.
 use Rattle.std.specs.Prelude.{◌≡◌, List, ◌++◌, map, option_map}
-use Rattle.bridge_ast.specs.declared.modules.Item.{Item}
+use Rattle.bridge_ast.specs.declared.modules.Module.{Module}
 use Rattle.bridge_tool.specs.declared.faults.At.{At}
 use Rattle.bridge_tool.specs.declared.faults.Fault.{Fault}
 use Rattle.bridge_tool.specs.declared.faults.Fault.TheVariants.{BadIdent, UnresolvedPath, LifetimeUnknown}
@@ -15,7 +15,11 @@ check_of (UnresolvedPath p) = path p.now
 check_of (LifetimeUnknown env l) = lifetime env.now l.now
 
 abbrev pub tested_at : At → Check → Tested
-tested_at at check = record { item = at.item.now; method = option_map (λ m. m.now) at.method; check = check }
+tested_at at check = record {
+  number = at.number;
+  place = record { path = at.path.now; item = at.item.now; method = option_map (λ m. m.now) at.method };
+  check = check;
+}
 
 abbrev pub tested_of : Report → Tested
 tested_of report = tested_at report.at (check_of report.fault)
@@ -26,9 +30,9 @@ pub record Appends {A : Type 0} (P : A → Type 0) (xs old new : List A) : Type 
   pub are : Chosen P xs chosen
   pub appended : new ≡ old ++ chosen
 
-abbrev pub TestFails : List Item → Tested → Type 0
-TestFails items tested = Fails items tested.check
+abbrev pub TestFails : List Module → Tested → Type 0
+TestFails modules tested = Fails modules tested.number tested.check
 
 -- the reports grew by those of the tests that fail
-abbrev pub Reports : List Item → List Tested → List Report → List Report → Type 0
-Reports items tests old new = Appends (TestFails items) tests (map tested_of old) (map tested_of new)
+abbrev pub Reports : List Module → List Tested → List Report → List Report → Type 0
+Reports modules tests old new = Appends (TestFails modules) tests (map tested_of old) (map tested_of new)

@@ -2,16 +2,18 @@
 use Rattle.std.specs.Prelude.{◌≡◌, ◌≤◌, ◌<◌, ◌^◌, ◌⊎◌, ◌++◌, ℕ, List, [], ◌∷◌, length, map, codes, string_bytes, Option, Some, IfSome, String, Result, Ok, Err}
 use Rattle.std.specs.declared.alloc.Global.{Global}
 use Rattle.bridge_ast.specs.declared.modules.Module.{Module}
+use Rattle.bridge_tool.specs.declared.read.input.Input.{Input}
 use Rattle.bridge_tool.specs.declared.sink.SinkFault.{SinkFault}
 use Rattle.bridge_tool.specs.declared.sink.SinkFault.TheVariants.{Failed, NoMemory}
 use Rattle.bridge_tool.specs.declared.status.Status.{Status}
 use Rattle.bridge_tool.specs.declared.status.Status.TheVariants as status
 use Rattle.bridge_tool.specs.Breaks.{BreakNothing}
+use Rattle.bridge_tool.specs.Built.{AreBuilt}
+use Rattle.bridge_tool.specs.Declining.{IsDeclinedBy}
+use Rattle.bridge_tool.specs.Inputs.{SpellsInput}
 use Rattle.bridge_tool.specs.Lines.{Reported, AreRefusedBy, lines}
 use Rattle.bridge_tool.specs.Outside.{Rose, taken_with}
 use Rattle.bridge_tool.specs.Page.{IsPage}
-use Rattle.bridge_tool.specs.Sound.{AreSound}
-use Rattle.bridge_tool.specs.Spelling.{Spelled, IsJson}
 
 -- the outside: the bytes that the source has left and those that the sink has taken, where they are told, and how often each failed
 pub record World : Type 0 where
@@ -27,15 +29,17 @@ world left read_faults taken write_faults = record { left = left; read_faults = 
 abbrev pub AreCommand : List (String Global) → Type 0
 AreCommand words = (map string_bytes words ≡ []) ⊎ (map string_bytes words ≡ codes "check" ∷ [])
 
--- the bytes spell declarations that fit together
-pub record Spells (bytes : List ℕ) (root : Module) : Type 0 where
-  pub spelled : Spelled bytes root
-  pub sound : AreSound root
+-- the bytes spell an input with these declarations, all of which are built
+pub record Spells (bytes : List ℕ) (modules : List Module) : Type 0 where
+  pub input : Input
+  pub spelled : SpellsInput bytes input
+  pub is : modules ≡ input.env
+  pub built : AreBuilt modules
 
 -- the bytes spell declarations that break no rule
-pub record AreAccepted (bytes : List ℕ) (root : Module) : Type 0 where
-  pub spells : Spells bytes root
-  pub keeps : BreakNothing root
+pub record AreAccepted (bytes : List ℕ) (modules : List Module) : Type 0 where
+  pub spells : Spells bytes modules
+  pub keeps : BreakNothing modules
 
 -- these are all the bytes that the source had, at most 2^26, and it has none left
 pub record WereRead (old new : World) (bytes : List ℕ) : Type 0 where
@@ -57,33 +61,22 @@ pub record NothingTaken (old new : World) : Type 0 where
 -- the declarations that the bytes spell are accepted, and their page was printed
 pub record Accepts (old new : World) : Type 0 where
   pub bytes : List ℕ
-  pub root : Module
+  pub modules : List Module
   pub page : List ℕ
   pub read : WereRead old new bytes
-  pub accepted : AreAccepted bytes root
-  pub is_page : IsPage root page
+  pub accepted : AreAccepted bytes modules
+  pub is_page : IsPage modules page
   pub taken : WasTaken old new page
 
 -- the declarations that the bytes spell break a rule, and the lines of their reports were printed
 pub record Refuses (old new : World) : Type 0 where
   pub bytes : List ℕ
-  pub root : Module
+  pub modules : List Module
   pub reports : List Reported
   pub read : WereRead old new bytes
-  pub spells : Spells bytes root
-  pub refused : AreRefusedBy root reports
+  pub spells : Spells bytes modules
+  pub refused : AreRefusedBy modules reports
   pub taken : WasTaken old new (lines reports)
-
-abbrev pub not_json_line : List ℕ
-not_json_line = codes "input: not JSON\n"
-
-abbrev pub not_built_line : List ℕ
-not_built_line = codes "input: form not built at \"\"\n"
-
--- why the bytes are declined: they are no JSON text, or they are one that spells no declarations that fit together
-abbrev pub IsDeclinedBy : List ℕ → List ℕ → Type 0
-IsDeclinedBy bytes line =
-    ((line ≡ not_json_line) × ¬ (IsJson bytes)) ⊎ ((line ≡ not_built_line) × IsJson bytes × ((root : Module) → ¬ (Spells bytes root)))
 
 -- the bytes are declined, and the line that says so was printed
 pub record Declines (old new : World) : Type 0 where
@@ -94,13 +87,13 @@ pub record Declines (old new : World) : Type 0 where
   pub taken : WasTaken old new line
 
 -- the text that answers declarations: their page where they break no rule, else the lines of their reports
-abbrev pub IsTextOf : Module → List ℕ → Type 0
-IsTextOf root text =
-    (BreakNothing root × IsPage root text) ⊎ ((reports : List Reported) × AreRefusedBy root reports × (text ≡ lines reports))
+abbrev pub IsTextOf : List Module → List ℕ → Type 0
+IsTextOf modules text =
+    (BreakNothing modules × IsPage modules text) ⊎ ((reports : List Reported) × AreRefusedBy modules reports × (text ≡ lines reports))
 
 -- the text that answers bytes: that of the declarations that they spell, or the line that declines them
 abbrev pub IsAnswerTo : List ℕ → List ℕ → Type 0
-IsAnswerTo bytes text = ((root : Module) × Spells bytes root × IsTextOf root text) ⊎ IsDeclinedBy bytes text
+IsAnswerTo bytes text = ((modules : List Module) × Spells bytes modules × IsTextOf modules text) ⊎ IsDeclinedBy bytes text
 
 -- the sink took a first part of a text of which P holds
 pub record FirstPart (P : List ℕ → Type 0) (taken taken' : Option (List ℕ)) : Type 0 where
@@ -145,24 +138,24 @@ ended_with verdict (Err Failed) = status.WriteFailed
 ended_with verdict (Err NoMemory) = status.NoMemory
 
 -- what was printed of declarations, by the status that it ends with
-abbrev pub Told : Module → Option (List ℕ) → Option (List ℕ) → ℕ → ℕ → Status → Type 0
-Told root taken taken' faults faults' status.Accepted =
-    (page : List ℕ) × BreakNothing root × IsPage root page × (taken' ≡ taken_with taken page) × (faults' ≡ faults)
-Told root taken taken' faults faults' status.Refused =
-    (reports : List Reported) × AreRefusedBy root reports × (taken' ≡ taken_with taken (lines reports)) × (faults' ≡ faults)
-Told root taken taken' faults faults' status.NotDeclarations = ⊥
-Told root taken taken' faults faults' status.ReadFailed = ⊥
-Told root taken taken' faults faults' status.WriteFailed = Rose faults faults' × IsCutOff (IsTextOf root) taken taken'
-Told root taken taken' faults faults' status.NoMemory = IsCutOff (IsTextOf root) taken taken'
-Told root taken taken' faults faults' status.BadWords = ⊥
-Told root taken taken' faults faults' status.TooLong = ⊥
+abbrev pub Told : List Module → Option (List ℕ) → Option (List ℕ) → ℕ → ℕ → Status → Type 0
+Told modules taken taken' faults faults' status.Accepted =
+    (page : List ℕ) × BreakNothing modules × IsPage modules page × (taken' ≡ taken_with taken page) × (faults' ≡ faults)
+Told modules taken taken' faults faults' status.Refused =
+    (reports : List Reported) × AreRefusedBy modules reports × (taken' ≡ taken_with taken (lines reports)) × (faults' ≡ faults)
+Told modules taken taken' faults faults' status.NotDeclarations = ⊥
+Told modules taken taken' faults faults' status.ReadFailed = ⊥
+Told modules taken taken' faults faults' status.WriteFailed = Rose faults faults' × IsCutOff (IsTextOf modules) taken taken'
+Told modules taken taken' faults faults' status.NoMemory = IsCutOff (IsTextOf modules) taken taken'
+Told modules taken taken' faults faults' status.BadWords = ⊥
+Told modules taken taken' faults faults' status.TooLong = ⊥
 
 -- what printing the verdict on bytes did to the sink, by the status that it ends with
 abbrev pub Answered : List ℕ → Option (List ℕ) → Option (List ℕ) → ℕ → ℕ → Status → Type 0
 Answered bytes taken taken' faults faults' status.Accepted =
-    (root : Module) × (page : List ℕ) × AreAccepted bytes root × IsPage root page × (taken' ≡ taken_with taken page) × (faults' ≡ faults)
+    (modules : List Module) × (page : List ℕ) × AreAccepted bytes modules × IsPage modules page × (taken' ≡ taken_with taken page) × (faults' ≡ faults)
 Answered bytes taken taken' faults faults' status.Refused =
-    (root : Module) × (reports : List Reported) × Spells bytes root × AreRefusedBy root reports × (taken' ≡ taken_with taken (lines reports)) × (faults' ≡ faults)
+    (modules : List Module) × (reports : List Reported) × Spells bytes modules × AreRefusedBy modules reports × (taken' ≡ taken_with taken (lines reports)) × (faults' ≡ faults)
 Answered bytes taken taken' faults faults' status.NotDeclarations =
     (line : List ℕ) × IsDeclinedBy bytes line × (taken' ≡ taken_with taken line) × (faults' ≡ faults)
 Answered bytes taken taken' faults faults' status.ReadFailed = ⊥

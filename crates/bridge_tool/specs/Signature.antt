@@ -3,11 +3,12 @@ use Rattle.std.specs.Prelude.{length, map, All}
 use Rattle.bridge_ast.specs.declared.lifetimes.LifetimeEnv.{LifetimeEnv}
 use Rattle.bridge_ast.specs.declared.lifetimes.LifetimeNode.{LifetimeNode}
 use Rattle.bridge_ast.specs.declared.modules.Item.{Item}
+use Rattle.bridge_ast.specs.declared.modules.Module.{Module}
 use Rattle.bridge_ast.specs.Environments.{lifetime_names}
 use Rattle.bridge_ast.specs.Ident.{IsIdent}
 use Rattle.hir_life.specs.declared.bounds.BoundedLifetime.{BoundedLifetime}
 use Rattle.hir_life.specs.Environment.{Environment}
-use Rattle.bridge_tool.specs.Sound.{methods_of}
+use Rattle.bridge_tool.specs.Methods.{methods_of}
 
 -- a declared lifetime with its bounds
 abbrev pub bounded : LifetimeNode → BoundedLifetime
@@ -23,3 +24,6 @@ HasNames env = All (λ name. ¬ (¬ (IsIdent name))) (lifetime_names env)
 
 abbrev pub HasNamedMethods : Item → Type 0
 HasNamedMethods item = All (λ method. HasNames method.lifetime_env) (methods_of item)
+
+abbrev pub HasNamedItems : Module → Type 0
+HasNamedItems m = All HasNamedMethods m.items

@@ -9,12 +9,14 @@ ghost use Rattle.bridge_ast.specs.declared.lifetimes.LifetimeEnv.{LifetimeEnv as
 ghost use Rattle.bridge_ast.specs.declared.methods.Method.{Method as Declared};
 ghost use Rattle.bridge_ast.specs.Environments.{lifetime_names, declared_longer, IsSoundEnvironment};
 ghost use Rattle.bridge_ast.specs.Ident.{IsIdent};
-ghost use Rattle.bridge_tool.specs.Borrows.{numbers, leaves_at, param_leaves, leaves as leaves_in, named, IsReturned, Callable, callables_of, IsCallableReport, AreReports};
+ghost use Rattle.bridge_ast.specs.Sound.{AreSound};
+ghost use Rattle.bridge_tool.specs.Borrows.{numbers, leaves_at, param_leaves, leaves as leaves_in, named, IsReturned, Callable, callables_of, callables_in, IsCallableReport, AreReports, callables_at};
 ghost use Rattle.bridge_tool.specs.Chosen.{EachPair};
+ghost use Rattle.bridge_tool.specs.Walking.{walk_order};
 ghost use Rattle.bridge_tool.specs.Index.{Indexes};
 ghost use Rattle.bridge_tool.specs.Leaves.{leaf_of, IsInRange, AreInRange, Lists};
-ghost use Rattle.bridge_tool.specs.Signature.{environment, HasNames, HasNamedMethods};
-ghost use Rattle.bridge_tool.specs.Sound.{HasSoundMethods, AreSound};
+ghost use Rattle.bridge_tool.specs.Signature.{environment, HasNames, HasNamedMethods, HasNamedItems};
+ghost use Rattle.bridge_tool.specs.Methods.{HasSoundMethods, HasSoundItems};
 
 use crate::declarations::{methods, receiver_lifetime, written_lifetime};
 use crate::environment::environment_of;
@@ -28,7 +30,7 @@ use bridge_ast::modules::{Item, Module};
 use bridge_ast::text::NoMemory;
 use bridge_ast::types::TypeName;
 use hir_life::{Lifetime, LifetimeEnv};
-use sqlite_items::Items;
+use sqlite_items::{Items, at};
 use std::alloc::Global;
 
 /// An input that refers to an opaque, and the number of the lifetime that it carries.
@@ -210,8 +212,8 @@ fn push_reports(
 ) -> Result<(), NoMemory>
     requires sound { HasSoundMethods item.now }
     requires names { HasNamedMethods item.now }
-    ensures { (before : List Callable) → EachPair IsCallableReport before reports.old.items
-        → OnOk result (EachPair IsCallableReport (before ++ callables_of item.now) reports.new.items) }
+    ensures { (path : List (List ℕ)) (before : List Callable) → EachPair IsCallableReport before reports.old.items
+        → OnOk result (EachPair IsCallableReport (before ++ callables_of path item.now) reports.new.items) }
 {
     for method in methods(item) {
         reports.push(callable_report(alloc, method)?)?;
@@ -219,16 +221,54 @@ fn push_reports(
     Ok(())
 }
 
+fn push_module(
+    alloc: Global,
+    reports: &mut Vec<CallableReport>,
+    declared: &Module,
+) -> Result<(), NoMemory>
+    requires sound { HasSoundItems declared.now }
+    requires names { HasNamedItems declared.now }
+    ensures { (before : List Callable) → EachPair IsCallableReport before reports.old.items
+        → OnOk result (EachPair IsCallableReport (before ++ callables_in declared.now) reports.new.items) }
+{
+    let items = declared.items.as_slice();
+    for item in items {
+        push_reports(alloc, reports, item)?;
+    }
+    Ok(())
+}
+
+fn push_number(
+    alloc: Global,
+    reports: &mut Vec<CallableReport>,
+    modules: &[Module],
+    number: usize,
+) -> Result<(), NoMemory>
+    requires sound { All HasSoundItems modules.now }
+    requires names { All HasNamedItems modules.now }
+    ensures { (before : List Callable) → EachPair IsCallableReport before reports.old.items
+        → OnOk result (EachPair IsCallableReport (before ++ callables_at modules.now number) reports.new.items) }
+{
+    match at(modules, number) {
+        Some(module) => push_module(alloc, reports, module),
+        None => Ok(()),
+    }
+}
+
 /// What may be borrowed from each callable's inputs, in the order of the callables.
-pub fn reports_of(alloc: Global, root: &Module) -> Result<Vec<CallableReport>, NoMemory>
-    requires sound { AreSound root.now }
-    requires names { All HasNamedMethods root.now.items }
-    ensures { IfOk result (λ reports. AreReports root.now.items reports.items) }
+pub fn reports_of(
+    alloc: Global,
+    modules: &[Module],
+    order: &[usize],
+) -> Result<Vec<CallableReport>, NoMemory>
+    requires order { order.now ≡ walk_order modules.now }
+    requires sound { AreSound modules.now }
+    requires names { All HasNamedItems modules.now }
+    ensures { IfOk result (λ reports. AreReports modules.now reports.items) }
 {
     let mut reports = Vec::new(alloc);
-    let items = root.items.as_slice();
-    for item in items {
-        push_reports(alloc, &mut reports, item)?;
+    for number in order {
+        push_number(alloc, &mut reports, modules, *number)?;
     }
     Ok(reports)
 }

@@ -5,7 +5,7 @@ ghost use Rattle.std.specs.Option.{option_copied};
 ghost use Rattle.bridge_ast.specs.declared.types.TypeName.{out-TypeName};
 ghost use Rattle.bridge_ast.specs.Names.{item_name};
 ghost use Rattle.bridge_tool.specs.Checks.{own_paths, type_paths, type_lifetimes, receiver_lifetimes};
-ghost use Rattle.bridge_tool.specs.Sound.{methods_of};
+ghost use Rattle.bridge_tool.specs.Methods.{methods_of};
 
 use bridge_ast::lifetimes::Lifetime;
 use bridge_ast::methods::{Method, SelfParam};

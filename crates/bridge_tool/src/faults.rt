@@ -7,6 +7,10 @@ use bridge_ast::text::Text;
 /// The place of a part of declarations.
 #[derive(Clone, Copy)]
 pub struct At<'a> {
+    /// The number of the module.
+    pub number: usize,
+    /// The path of the module.
+    pub path: &'a [Text],
     /// The name of the item.
     pub item: &'a Text,
     /// The name of the method, where the part stands in one.

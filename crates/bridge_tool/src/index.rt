@@ -2,12 +2,9 @@
 
 ghost use Rattle.std.specs.Prelude.{◌≡◌, ℕ, List, [], ◌∷◌, ◌++◌, length, OnOk, IfOk, MatchBool, MatchOption, IsNone, IsSome};
 ghost use Rattle.bridge_ast.specs.Environments.{AreDistinct, lifetime_names};
-ghost use Rattle.bridge_ast.specs.Names.{item_names};
 ghost use Rattle.bridge_tool.specs.Index.{Indexes, number_of};
 
-use crate::declarations::name_of;
 use bridge_ast::lifetimes::LifetimeEnv;
-use bridge_ast::modules::Item;
 use bridge_ast::text::{NoMemory, Text};
 use std::alloc::Global;
 use std::collections::BTreeMap;
@@ -32,19 +29,6 @@ pub fn add(
     let key = name.try_clone(alloc)?;
     index.insert(key, place)?;
     Ok(true)
-}
-
-/// The place of each item's name; none where two items have one name.
-pub fn index_items(alloc: Global, items: &[Item]) -> Result<Option<NameIndex>, NoMemory>
-    ensures { IfOk result (λ found. MatchOption found (¬ AreDistinct (item_names items.now)) (λ index. AreDistinct (item_names items.now) × Indexes index (item_names items.now))) }
-{
-    let mut index = BTreeMap::new(alloc);
-    for (place, item) in items.iter().enumerate() {
-        if !add(alloc, &mut index, name_of(item), place)? {
-            return Ok(None);
-        }
-    }
-    Ok(Some(index))
 }
 
 /// The number of each lifetime's name; none where two lifetimes have one name.

@@ -1,24 +1,23 @@
 //! From the bytes of an input to the verdict on them.
 
 ghost use Rattle.std.specs.Prelude.{IfOk};
-ghost use Rattle.bridge_tool.specs.Judging.{Judges, JudgesDeclarations};
+ghost use Rattle.bridge_tool.specs.Judging.{Judges, JudgesModules};
 
-use crate::read::fault::ReadFault;
-use crate::read::read_declarations;
-use crate::sound::are_sound;
+use crate::built::is_built;
+use crate::read::input::{InputFault, read_input};
 use crate::verdict::Verdict;
-use bridge_ast::modules::Module;
+use bridge_ast::environment::Env;
 use bridge_ast::text::NoMemory;
 use std::alloc::{AllocError, Global};
 
-/// The verdict on declarations that were read.
-fn judge_declarations(alloc: Global, root: Module) -> Result<Verdict, NoMemory>
-    ensures { IfOk result (JudgesDeclarations root) }
+/// The verdict on an environment that was read.
+fn judge_environment(env: Env) -> Verdict
+    ensures { JudgesModules env result }
 {
-    if are_sound(alloc, &root)? {
-        Ok(Verdict::Declarations(root))
+    if is_built(env.modules()) {
+        Verdict::Declarations(env)
     } else {
-        Ok(Verdict::NotBuilt)
+        Verdict::NotBuilt
     }
 }
 
@@ -26,10 +25,9 @@ fn judge_declarations(alloc: Global, root: Module) -> Result<Verdict, NoMemory>
 pub fn judge(alloc: Global, bytes: &[u8]) -> Result<Verdict, NoMemory>
     ensures { IfOk result (Judges bytes.now) }
 {
-    match read_declarations(alloc, bytes) {
-        Ok(root) => judge_declarations(alloc, root),
-        Err(ReadFault::NotJson) => Ok(Verdict::NotJson),
-        Err(ReadFault::FormNotBuilt) => Ok(Verdict::NotBuilt),
-        Err(ReadFault::NoMemory) => Err(AllocError),
+    match read_input(alloc, bytes) {
+        Ok(input) => Ok(judge_environment(input.env)),
+        Err(InputFault::NotDeclarations { kind, pointer }) => Ok(Verdict::Faulty(kind, pointer)),
+        Err(InputFault::NoMemory) => Err(AllocError),
     }
 }

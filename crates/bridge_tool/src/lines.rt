@@ -9,7 +9,6 @@ ghost use Rattle.bridge_tool.specs.Reports.{check_of, tested_of};
 use crate::faults::{At, Fault, Report};
 use crate::printer::{Printer, finish, put_number, put_separator, put_text};
 use crate::sink::{Sink, SinkFault};
-use bridge_ast::modules::Module;
 use bridge_ast::text::Text;
 
 /// A segment, after what stands before it in its list.
@@ -56,12 +55,12 @@ fn put_root<K: Sink>(sink: &mut K, out: &mut Printer, is_root: bool)
     }
 }
 
-/// Whether a place of the module of that path has no segment.
-fn is_root(path: &[Text], at: At<'_>) -> bool
-    ensures root { result ≡ true → length ((path.now ++ item_segments at.entry.item.now) ++ method_segments (option_map (λ m. m.now) at.entry.method)) ≡ 0 }
-    ensures other { result ≡ false → 1 ≤ length ((path.now ++ item_segments at.entry.item.now) ++ method_segments (option_map (λ m. m.now) at.entry.method)) }
+/// Whether a place has no segment.
+fn is_root(at: At<'_>) -> bool
+    ensures root { result ≡ true → length ((at.entry.path.now ++ item_segments at.entry.item.now) ++ method_segments (option_map (λ m. m.now) at.entry.method)) ≡ 0 }
+    ensures other { result ≡ false → 1 ≤ length ((at.entry.path.now ++ item_segments at.entry.item.now) ++ method_segments (option_map (λ m. m.now) at.entry.method)) }
 {
-    match (path, at.method) {
+    match (at.path, at.method) {
         ([], None) => at.item.as_str().is_empty(),
         _ => false,
     }
@@ -78,15 +77,14 @@ fn segments_before(path: &[Text], item: &Text) -> usize
     }
 }
 
-/// A place of the module of that path.
-fn put_place<K: Sink>(sink: &mut K, out: &mut Printer, path: &[Text], at: At<'_>)
+fn put_place<K: Sink>(sink: &mut K, out: &mut Printer, at: At<'_>)
     ensures { Prints K.taken K.faults sink.old out.old sink.new out.new
-        (place_text (record { path = path.now; item = at.entry.item.now; method = option_map (λ m. m.now) at.entry.method })) }
+        (place_text (record { path = at.entry.path.now; item = at.entry.item.now; method = option_map (λ m. m.now) at.entry.method })) }
 {
-    put_segments(sink, out, path);
-    put_item(sink, out, path.len(), at.item);
-    put_method(sink, out, segments_before(path, at.item), at.method);
-    put_root(sink, out, is_root(path, at));
+    put_segments(sink, out, at.path);
+    put_item(sink, out, at.path.len(), at.item);
+    put_method(sink, out, segments_before(at.path, at.item), at.method);
+    put_root(sink, out, is_root(at));
 }
 
 /// The name of the rule that a fault breaks.
@@ -123,11 +121,11 @@ fn put_fault<K: Sink>(sink: &mut K, out: &mut Printer, fault: &Fault<'_>)
 }
 
 /// The two lines of a report.
-fn put_report<K: Sink>(sink: &mut K, out: &mut Printer, path: &[Text], report: &Report<'_>)
-    ensures { Prints K.taken K.faults sink.old out.old sink.new out.new (report_text (reported path.now (tested_of report.entry.now))) }
+fn put_report<K: Sink>(sink: &mut K, out: &mut Printer, report: &Report<'_>)
+    ensures { Prints K.taken K.faults sink.old out.old sink.new out.new (report_text (reported (tested_of report.entry.now))) }
 {
     put_text(sink, out, "Lowering error in ");
-    put_place(sink, out, path, report.at);
+    put_place(sink, out, report.at);
     put_text(sink, out, "\n  ");
     put_text(sink, out, rule_name_of(&report.fault));
     put_text(sink, out, ": ");
@@ -136,27 +134,23 @@ fn put_report<K: Sink>(sink: &mut K, out: &mut Printer, path: &[Text], report: &
 }
 
 /// All reports.
-fn put_reports<K: Sink>(sink: &mut K, out: &mut Printer, path: &[Text], reports: &[Report<'_>])
+fn put_reports<K: Sink>(sink: &mut K, out: &mut Printer, reports: &[Report<'_>])
     ensures { Prints K.taken K.faults sink.old out.old sink.new out.new
-        (flat_map (λ report. report_text (reported path.now (tested_of report))) reports.entry.now) }
+        (flat_map (λ report. report_text (reported (tested_of report))) reports.entry.now) }
 {
     for report in reports {
-        put_report(sink, out, path, report);
+        put_report(sink, out, report);
     }
 }
 
-/// Prints the lines of these reports on the declarations, and nothing else. It takes no memory.
+/// Prints the lines of these reports, and nothing else. It takes no memory.
 ///
 /// `Failed` where a write failed, `NoMemory` where a write wanted memory: then a first part of the lines is written.
-pub fn print_lines<K: Sink>(
-    sink: &mut K,
-    root: &Module,
-    reports: &[Report<'_>],
-) -> Result<(), SinkFault>
-    ensures { Delivers K.taken K.faults sink.old sink.new (lines (map (reported root.now.path) (map tested_of reports.entry.now))) result }
+pub fn print_lines<K: Sink>(sink: &mut K, reports: &[Report<'_>]) -> Result<(), SinkFault>
+    ensures { Delivers K.taken K.faults sink.old sink.new (lines (map reported (map tested_of reports.entry.now))) result }
 {
     let mut out = Printer::new();
-    put_reports(sink, &mut out, root.path.as_slice(), reports);
+    put_reports(sink, &mut out, reports);
     put_text(sink, &mut out, "refused ");
     put_number(sink, &mut out, reports.len());
     put_text(sink, &mut out, "\n");

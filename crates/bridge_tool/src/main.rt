@@ -4,28 +4,28 @@
 #![tactic(auto)]
 
 mod borrow;
-mod bounds;
+mod built;
 pub mod bytes;
 mod declarations;
+mod decline;
 mod environment;
 mod faults;
 mod index;
 mod judge;
-mod keys;
 mod lines;
 mod page;
 pub mod printer;
-mod read;
+pub mod read;
 mod report;
 mod rules;
 pub mod run;
 pub mod sink;
-mod sound;
 pub mod source;
 mod status;
 #[cfg(test)]
 mod tests;
 mod verdict;
+mod walk;
 
 use crate::run::run;
 use crate::sink::StdSink;

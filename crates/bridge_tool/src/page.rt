@@ -1,13 +1,14 @@
 //! The page of accepted declarations: what each callable's returned value may borrow.
 
-ghost use Rattle.std.specs.Prelude.{◌≡◌, ◌++◌, List, map, length, codes, decimal};
+ghost use Rattle.std.specs.Prelude.{◌≡◌, ◌++◌, List, map, length, drop, codes, decimal};
 ghost use Rattle.std.specs.List.{flat_map, join_by};
 ghost use Rattle.std.specs.Option.{option_copied};
 ghost use Rattle.bridge_ast.specs.Names.{item_name};
-ghost use Rattle.bridge_tool.specs.Borrows.{callables_of, callables};
-ghost use Rattle.bridge_tool.specs.Page.{input_text, path_text, edge_text, optional_text, opening, lifetime_text, paths_line, edges_line, returned_text, place_text, callable_text, text_with, callables_text, page_of};
+ghost use Rattle.bridge_tool.specs.Borrows.{callables_of, callables_in, callables, callables_at};
+ghost use Rattle.bridge_tool.specs.Page.{input_text, path_text, edge_text, optional_text, opening, lifetime_text, paths_line, edges_line, returned_text, prefix_text, place_text, callable_text, text_with, callables_text, page_of};
+ghost use Rattle.bridge_tool.specs.Walking.{walk_order};
 ghost use Rattle.bridge_tool.specs.Printing.{Prints, Delivers, separator_at};
-ghost use Rattle.bridge_tool.specs.Sound.{methods_of};
+ghost use Rattle.bridge_tool.specs.Methods.{methods_of};
 
 use crate::declarations::{methods, name_of};
 use crate::printer::{Printer, finish, put_number, put_separator, put_text};
@@ -203,17 +204,36 @@ fn put_all_returned<K: Sink>(
     }
 }
 
-/// A callable of the item of that name, with what it may borrow.
+/// A segment of a module's path, with `::` after it.
+fn put_prefix_segment<K: Sink>(sink: &mut K, out: &mut Printer, segment: &Text)
+    ensures { Prints K.taken K.faults sink.old out.old sink.new out.new (segment.now ++ codes "::") }
+{
+    put_text(sink, out, segment.as_str());
+    put_text(sink, out, "::");
+}
+
+fn put_prefix<K: Sink>(sink: &mut K, out: &mut Printer, path: &[Text])
+    ensures { Prints K.taken K.faults sink.old out.old sink.new out.new (prefix_text path.now) }
+{
+    for segment in path {
+        put_prefix_segment(sink, out, segment);
+    }
+}
+
+/// A callable of the item of that name in the module of that path, with what it may borrow.
 fn put_callable<K: Sink>(
     sink: &mut K,
     out: &mut Printer,
+    path: &[Text],
     item: &Text,
     method: &Method,
     report: &CallableReport,
 )
-    ensures { Prints K.taken K.faults sink.old out.old sink.new out.new (callable_text (record { item = item.now; method = method.now }) report.now) }
+    ensures { Prints K.taken K.faults sink.old out.old sink.new out.new
+        (callable_text (record { path = path.now; item = item.now; method = method.now }) report.now) }
 {
     put_text(sink, out, "callable ");
+    put_prefix(sink, out, path);
     put_text(sink, out, item.as_str());
     put_text(sink, out, "::");
     put_text(sink, out, method.name.as_str());
@@ -225,43 +245,107 @@ fn put_callable<K: Sink>(
 fn put_callable_with<K: Sink>(
     sink: &mut K,
     out: &mut Printer,
+    path: &[Text],
     item: &Text,
     method: &Method,
     report: Option<&CallableReport>,
 )
-    ensures { Prints K.taken K.faults sink.old out.old sink.new out.new (text_with (record { item = item.now; method = method.now }) (option_copied report.entry)) }
+    ensures { Prints K.taken K.faults sink.old out.old sink.new out.new
+        (text_with (record { path = path.now; item = item.now; method = method.now }) (option_copied report.entry)) }
 {
     match report {
-        Some(report) => put_callable(sink, out, item, method, report),
+        Some(report) => put_callable(sink, out, path, item, method, report),
         None => {}
     }
 }
 
-/// The callables of an item with their reports.
-fn put_callables<K: Sink>(sink: &mut K, out: &mut Printer, item: &Item, reports: &[CallableReport])
-    ensures { Prints K.taken K.faults sink.old out.old sink.new out.new (callables_text (callables_of item.now) reports.now) }
+/// The callables of an item of the module of that path, with their reports.
+fn put_callables<K: Sink>(
+    sink: &mut K,
+    out: &mut Printer,
+    path: &[Text],
+    item: &Item,
+    reports: &[CallableReport],
+)
+    ensures { Prints K.taken K.faults sink.old out.old sink.new out.new (callables_text (callables_of path.now item.now) reports.now) }
 {
     let name = name_of(item);
     for (place, method) in methods(item).iter().enumerate() {
-        put_callable_with(sink, out, name, method, at(reports, place));
+        put_callable_with(sink, out, path, name, method, at(reports, place));
     }
 }
 
-/// The callables of all items with their reports.
-fn put_all_callables<K: Sink>(
+/// The callables of the items of the module of that path with their reports. The answer is the reports that are left.
+fn put_items<'r, K: Sink>(
     sink: &mut K,
     out: &mut Printer,
+    path: &[Text],
     items: &[Item],
-    reports: &[CallableReport],
-)
-    ensures { Prints K.taken K.faults sink.old out.old sink.new out.new (callables_text (callables items.now) reports.now) }
+    reports: &'r [CallableReport],
+) -> &'r [CallableReport]
+    ensures printed { Prints K.taken K.faults sink.old out.old sink.new out.new
+        (callables_text (flat_map (callables_of path.now) items.now) reports.now) }
+    ensures left { result.now ≡ drop (length (flat_map (callables_of path.now) items.now)) reports.now }
 {
     let mut rest = reports;
     for item in items {
         let count = methods(item).len().min(rest.len());
         let (own, others) = rest.split_at(count);
-        put_callables(sink, out, item, own);
+        put_callables(sink, out, path, item, own);
         rest = others;
+    }
+    rest
+}
+
+/// The callables of a module with their reports. The answer is the reports that are left.
+fn put_module<'r, K: Sink>(
+    sink: &mut K,
+    out: &mut Printer,
+    declared: &Module,
+    reports: &'r [CallableReport],
+) -> &'r [CallableReport]
+    ensures printed { Prints K.taken K.faults sink.old out.old sink.new out.new (callables_text (callables_in declared.now) reports.now) }
+    ensures left { result.now ≡ drop (length (callables_in declared.now)) reports.now }
+{
+    put_items(
+        sink,
+        out,
+        declared.path.as_slice(),
+        declared.items.as_slice(),
+        reports,
+    )
+}
+
+/// The same for the module of a number, if there is one.
+fn put_number_module<'r, K: Sink>(
+    sink: &mut K,
+    out: &mut Printer,
+    modules: &[Module],
+    number: usize,
+    reports: &'r [CallableReport],
+) -> &'r [CallableReport]
+    ensures printed { Prints K.taken K.faults sink.old out.old sink.new out.new (callables_text (callables_at modules.now number) reports.now) }
+    ensures left { result.now ≡ drop (length (callables_at modules.now number)) reports.now }
+{
+    match at(modules, number) {
+        Some(module) => put_module(sink, out, module, reports),
+        None => reports,
+    }
+}
+
+/// The callables of the modules of these numbers with their reports.
+fn put_modules<K: Sink>(
+    sink: &mut K,
+    out: &mut Printer,
+    modules: &[Module],
+    order: &[usize],
+    reports: &[CallableReport],
+)
+    ensures { Prints K.taken K.faults sink.old out.old sink.new out.new (callables_text (flat_map (callables_at modules.now) order.now) reports.now) }
+{
+    let mut rest = reports;
+    for number in order {
+        rest = put_number_module(sink, out, modules, *number, rest);
     }
 }
 
@@ -270,14 +354,16 @@ fn put_all_callables<K: Sink>(
 /// `Failed` where a write failed, `NoMemory` where a write wanted memory: then a first part of the page is written.
 pub fn print_page<K: Sink>(
     sink: &mut K,
-    root: &Module,
+    modules: &[Module],
+    order: &[usize],
     reports: &[CallableReport],
 ) -> Result<(), SinkFault>
-    requires { length reports.now ≡ length (callables root.now.items) }
-    ensures { Delivers K.taken K.faults sink.old sink.new (page_of (callables root.now.items) reports.now) result }
+    requires order { order.now ≡ walk_order modules.now }
+    requires each { length reports.now ≡ length (callables modules.now) }
+    ensures { Delivers K.taken K.faults sink.old sink.new (page_of (callables modules.now) reports.now) result }
 {
     let mut out = Printer::new();
-    put_all_callables(sink, &mut out, root.items.as_slice(), reports);
+    put_modules(sink, &mut out, modules, order, reports);
     put_text(sink, &mut out, "ok ");
     put_number(sink, &mut out, reports.len());
     put_text(sink, &mut out, "\n");

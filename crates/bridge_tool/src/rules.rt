@@ -1,20 +1,21 @@
 //! The rules that declarations have to keep.
 
-ghost use Rattle.std.specs.Prelude.{◌≡◌, ℕ, List, [], ◌∷◌, ◌++◌, map, OnOk, IfOk, MatchBool, Contains, All};
+ghost use Rattle.std.specs.Prelude.{◌≡◌, ◌<◌, ℕ, List, [], ◌∷◌, ◌++◌, map, OnOk, IfOk, MatchBool, length, Contains, All};
 ghost use Rattle.std.specs.List.{flat_map};
-ghost use Rattle.bridge_ast.specs.declared.modules.Item.{Item};
+ghost use Rattle.bridge_ast.specs.declared.modules.Module.{Module as Declared};
 ghost use Rattle.bridge_ast.specs.declared.types.TypeName.{out-TypeName};
 ghost use Rattle.bridge_ast.specs.Environments.{lifetime_names, IsSoundEnvironment};
-ghost use Rattle.bridge_ast.specs.Names.{Names, item_names};
-ghost use Rattle.bridge_tool.specs.Checks.{name, path, lifetime, type_paths, type_lifetimes, lifetime_name, method_names, method_paths, method_lifetimes, receiver_paths, receiver_lifetimes, returned_paths, returned_lifetimes, tested_in_method, tested_in_item, tested_in};
+ghost use Rattle.bridge_tool.specs.Checks.{name, path, lifetime, Fails, type_paths, type_lifetimes, lifetime_name, method_names, method_paths, method_lifetimes, receiver_paths, receiver_lifetimes, returned_paths, returned_lifetimes, tested_in_method, tested_in_item, tested_in_module, tested_in, tested_at_number};
 ghost use Rattle.bridge_tool.specs.Index.{Indexes};
 ghost use Rattle.bridge_tool.specs.Chosen.{Chosen};
+ghost use Rattle.bridge_tool.specs.Walking.{walk_order};
 ghost use Rattle.bridge_tool.specs.Reports.{tested_at, tested_of, TestFails, Reports};
-ghost use Rattle.bridge_tool.specs.Sound.{HasSoundMethods, AreSound};
+ghost use Rattle.bridge_tool.specs.Methods.{HasSoundMethods, HasSoundItems};
 
 use crate::declarations::{methods, name_of, receiver_lifetime, written_lifetime, written_path};
 use crate::faults::{At, Fault, Report};
-use crate::index::{NameIndex, index_items, index_lifetimes};
+use crate::index::{NameIndex, index_lifetimes};
+use bridge_ast::environment::Env;
 use bridge_ast::idents::is_ident;
 use bridge_ast::lifetimes::{Lifetime, LifetimeEnv, LifetimeNode};
 use bridge_ast::methods::{Method, Param, SelfParam};
@@ -22,6 +23,7 @@ use bridge_ast::modules::{Item, Module};
 use bridge_ast::paths::PathType;
 use bridge_ast::text::{NoMemory, Text};
 use bridge_ast::types::TypeName;
+use sqlite_items::at;
 use std::alloc::Global;
 
 /// A rule, under the name that reports print.
@@ -37,7 +39,7 @@ pub enum Rule {
 
 /// Tests the rule BadIdent of a name.
 fn test_name<'a>(reports: &mut Vec<Report<'a>>, at: At<'a>, ident: &'a Text) -> Result<(), NoMemory>
-    ensures { (items : List Item) → OnOk result (Reports items (tested_at at.entry (name ident.now) ∷ []) reports.old.items reports.new.items) }
+    ensures { (modules : List Declared) → OnOk result (Reports modules (tested_at at.entry (name ident.now) ∷ []) reports.old.items reports.new.items) }
 {
     if !is_ident(ident.as_str()) {
         reports.push(Report {
@@ -48,13 +50,14 @@ fn test_name<'a>(reports: &mut Vec<Report<'a>>, at: At<'a>, ident: &'a Text) -> 
     Ok(())
 }
 
-/// Whether the path names one of the items.
-fn names_item(items: &NameIndex, named: &PathType) -> bool
-    ensures { (all : List Item) → Indexes items.now (item_names all) → MatchBool result ((place : ℕ) × Names all named.now place) (¬ ((place : ℕ) × Names all named.now place)) }
+/// Whether the path names no struct, opaque or enum, read in the module of that number.
+fn names_nothing(env: &Env, number: usize, named: &PathType) -> bool
+    requires { number < length env.now }
+    ensures { MatchBool result (Fails env.now number (path named.now)) (¬ (Fails env.now number (path named.now))) }
 {
-    match named.segments.as_slice() {
-        [segment] => items.contains_key(segment),
-        _ => false,
+    match env.resolve(number, named) {
+        Some(_) => false,
+        None => true,
     }
 }
 
@@ -62,12 +65,13 @@ fn names_item(items: &NameIndex, named: &PathType) -> bool
 fn test_path<'a>(
     reports: &mut Vec<Report<'a>>,
     at: At<'a>,
-    items: &NameIndex,
+    env: &Env,
     named: &'a PathType,
 ) -> Result<(), NoMemory>
-    ensures { (all : List Item) → Indexes items.now (item_names all) → OnOk result (Reports all (tested_at at.entry (path named.now) ∷ []) reports.old.items reports.new.items) }
+    requires { at.number < length env.now }
+    ensures { OnOk result (Reports env.now (tested_at at.entry (path named.now) ∷ []) reports.old.items reports.new.items) }
 {
-    if !names_item(items, named) {
+    if names_nothing(env, at.number, named) {
         reports.push(Report {
             at,
             fault: Fault::UnresolvedPath(named),
@@ -91,7 +95,7 @@ fn test_lifetime<'a>(
     env: &'a LifetimeEnv,
     used: &'a Lifetime,
 ) -> Result<(), NoMemory>
-    ensures { (all : List Item) → Indexes names.now (lifetime_names env.now)
+    ensures { (all : List Declared) → Indexes names.now (lifetime_names env.now)
         → OnOk result (Reports all (map (λ l. tested_at at.entry (lifetime env.now l)) (lifetime_name used.now)) reports.old.items reports.new.items) }
 {
     if let Lifetime::Named(used) = used {
@@ -110,7 +114,7 @@ fn test_param_names<'a>(
     at: At<'a>,
     params: &'a [Param],
 ) -> Result<(), NoMemory>
-    ensures { (all : List Item) → OnOk result (Reports all (flat_map (λ param. tested_at at.entry (name param.name) ∷ []) params.now) reports.old.items reports.new.items) }
+    ensures { (all : List Declared) → OnOk result (Reports all (flat_map (λ param. tested_at at.entry (name param.name) ∷ []) params.now) reports.old.items reports.new.items) }
 {
     for param in params {
         test_name(reports, at, &param.name)?;
@@ -123,7 +127,7 @@ fn test_lifetime_names<'a>(
     at: At<'a>,
     nodes: &'a [LifetimeNode],
 ) -> Result<(), NoMemory>
-    ensures { (all : List Item) → OnOk result (Reports all (flat_map (λ node. tested_at at.entry (name node.name) ∷ []) nodes.now) reports.old.items reports.new.items) }
+    ensures { (all : List Declared) → OnOk result (Reports all (flat_map (λ node. tested_at at.entry (name node.name) ∷ []) nodes.now) reports.old.items reports.new.items) }
 {
     for node in nodes {
         test_name(reports, at, &node.name)?;
@@ -134,14 +138,14 @@ fn test_lifetime_names<'a>(
 fn test_type_path<'a>(
     reports: &mut Vec<Report<'a>>,
     at: At<'a>,
-    items: &NameIndex,
+    env: &Env,
     ty: &'a TypeName,
 ) -> Result<(), NoMemory>
-    ensures { (all : List Item) → Indexes items.now (item_names all)
-        → OnOk result (Reports all (map (λ p. tested_at at.entry (path p)) (type_paths (out-TypeName ty.now))) reports.old.items reports.new.items) }
+    requires { at.number < length env.now }
+    ensures { OnOk result (Reports env.now (map (λ p. tested_at at.entry (path p)) (type_paths (out-TypeName ty.now))) reports.old.items reports.new.items) }
 {
     match written_path(ty) {
-        Some(named) => test_path(reports, at, items, named),
+        Some(named) => test_path(reports, at, env, named),
         None => Ok(()),
     }
 }
@@ -149,14 +153,14 @@ fn test_type_path<'a>(
 fn test_param_paths<'a>(
     reports: &mut Vec<Report<'a>>,
     at: At<'a>,
-    items: &NameIndex,
+    env: &Env,
     params: &'a [Param],
 ) -> Result<(), NoMemory>
-    ensures { (all : List Item) → Indexes items.now (item_names all)
-        → OnOk result (Reports all (flat_map (λ param. map (λ p. tested_at at.entry (path p)) (type_paths (out-TypeName param.ty))) params.now) reports.old.items reports.new.items) }
+    requires { at.number < length env.now }
+    ensures { OnOk result (Reports env.now (flat_map (λ param. map (λ p. tested_at at.entry (path p)) (type_paths (out-TypeName param.ty))) params.now) reports.old.items reports.new.items) }
 {
     for param in params {
-        test_type_path(reports, at, items, &param.ty)?;
+        test_type_path(reports, at, env, &param.ty)?;
     }
     Ok(())
 }
@@ -168,7 +172,7 @@ fn test_type_lifetime<'a>(
     env: &'a LifetimeEnv,
     ty: &'a TypeName,
 ) -> Result<(), NoMemory>
-    ensures { (all : List Item) → Indexes names.now (lifetime_names env.now)
+    ensures { (all : List Declared) → Indexes names.now (lifetime_names env.now)
         → OnOk result (Reports all (map (λ l. tested_at at.entry (lifetime env.now l)) (flat_map lifetime_name (type_lifetimes (out-TypeName ty.now)))) reports.old.items reports.new.items) }
 {
     match written_lifetime(ty) {
@@ -184,7 +188,7 @@ fn test_param_lifetimes<'a>(
     env: &'a LifetimeEnv,
     params: &'a [Param],
 ) -> Result<(), NoMemory>
-    ensures { (all : List Item) → Indexes names.now (lifetime_names env.now)
+    ensures { (all : List Declared) → Indexes names.now (lifetime_names env.now)
         → OnOk result (Reports all (flat_map (λ param. map (λ l. tested_at at.entry (lifetime env.now l)) (flat_map lifetime_name (type_lifetimes (out-TypeName param.ty)))) params.now) reports.old.items reports.new.items) }
 {
     for param in params {
@@ -199,7 +203,7 @@ fn test_names<'a>(
     at: At<'a>,
     method: &'a Method,
 ) -> Result<(), NoMemory>
-    ensures { (all : List Item) → OnOk result (Reports all (map (λ n. tested_at at.entry (name n)) (method_names method.now)) reports.old.items reports.new.items) }
+    ensures { (all : List Declared) → OnOk result (Reports all (map (λ n. tested_at at.entry (name n)) (method_names method.now)) reports.old.items reports.new.items) }
 {
     test_name(reports, at, &method.name)?;
     test_param_names(reports, at, method.params.as_slice())?;
@@ -209,14 +213,14 @@ fn test_names<'a>(
 fn test_receiver_path<'a>(
     reports: &mut Vec<Report<'a>>,
     at: At<'a>,
-    items: &NameIndex,
+    env: &Env,
     receiver: &'a Option<SelfParam>,
 ) -> Result<(), NoMemory>
-    ensures { (all : List Item) → Indexes items.now (item_names all)
-        → OnOk result (Reports all (map (λ p. tested_at at.entry (path p)) (receiver_paths receiver.now)) reports.old.items reports.new.items) }
+    requires { at.number < length env.now }
+    ensures { OnOk result (Reports env.now (map (λ p. tested_at at.entry (path p)) (receiver_paths receiver.now)) reports.old.items reports.new.items) }
 {
     match receiver {
-        Some(receiver) => test_path(reports, at, items, &receiver.path_type),
+        Some(receiver) => test_path(reports, at, env, &receiver.path_type),
         None => Ok(()),
     }
 }
@@ -224,14 +228,14 @@ fn test_receiver_path<'a>(
 fn test_returned_path<'a>(
     reports: &mut Vec<Report<'a>>,
     at: At<'a>,
-    items: &NameIndex,
+    env: &Env,
     returned: &'a Option<TypeName>,
 ) -> Result<(), NoMemory>
-    ensures { (all : List Item) → Indexes items.now (item_names all)
-        → OnOk result (Reports all (map (λ p. tested_at at.entry (path p)) (returned_paths returned.now)) reports.old.items reports.new.items) }
+    requires { at.number < length env.now }
+    ensures { OnOk result (Reports env.now (map (λ p. tested_at at.entry (path p)) (returned_paths returned.now)) reports.old.items reports.new.items) }
 {
     match returned {
-        Some(ty) => test_type_path(reports, at, items, ty),
+        Some(ty) => test_type_path(reports, at, env, ty),
         None => Ok(()),
     }
 }
@@ -240,16 +244,16 @@ fn test_returned_path<'a>(
 fn test_paths<'a>(
     reports: &mut Vec<Report<'a>>,
     at: At<'a>,
-    items: &NameIndex,
+    env: &Env,
     method: &'a Method,
 ) -> Result<(), NoMemory>
-    ensures { (all : List Item) → Indexes items.now (item_names all)
-        → OnOk result (Reports all (map (λ p. tested_at at.entry (path p)) (method_paths method.now)) reports.old.items reports.new.items) }
+    requires { at.number < length env.now }
+    ensures { OnOk result (Reports env.now (map (λ p. tested_at at.entry (path p)) (method_paths method.now)) reports.old.items reports.new.items) }
 {
-    test_path(reports, at, items, &method.self_type)?;
-    test_receiver_path(reports, at, items, &method.self_param)?;
-    test_param_paths(reports, at, items, method.params.as_slice())?;
-    test_returned_path(reports, at, items, &method.return_type)
+    test_path(reports, at, env, &method.self_type)?;
+    test_receiver_path(reports, at, env, &method.self_param)?;
+    test_param_paths(reports, at, env, method.params.as_slice())?;
+    test_returned_path(reports, at, env, &method.return_type)
 }
 
 fn test_receiver_lifetime<'a>(
@@ -259,7 +263,7 @@ fn test_receiver_lifetime<'a>(
     env: &'a LifetimeEnv,
     receiver: &'a Option<SelfParam>,
 ) -> Result<(), NoMemory>
-    ensures { (all : List Item) → Indexes names.now (lifetime_names env.now)
+    ensures { (all : List Declared) → Indexes names.now (lifetime_names env.now)
         → OnOk result (Reports all (map (λ l. tested_at at.entry (lifetime env.now l)) (flat_map lifetime_name (receiver_lifetimes receiver.now))) reports.old.items reports.new.items) }
 {
     match receiver_lifetime(receiver) {
@@ -275,7 +279,7 @@ fn test_returned_lifetime<'a>(
     env: &'a LifetimeEnv,
     returned: &'a Option<TypeName>,
 ) -> Result<(), NoMemory>
-    ensures { (all : List Item) → Indexes names.now (lifetime_names env.now)
+    ensures { (all : List Declared) → Indexes names.now (lifetime_names env.now)
         → OnOk result (Reports all (map (λ l. tested_at at.entry (lifetime env.now l)) (flat_map lifetime_name (returned_lifetimes returned.now))) reports.old.items reports.new.items) }
 {
     match returned {
@@ -291,7 +295,7 @@ fn test_lifetimes<'a>(
     names: &NameIndex,
     method: &'a Method,
 ) -> Result<(), NoMemory>
-    ensures { (all : List Item) → Indexes names.now (lifetime_names method.now.lifetime_env)
+    ensures { (all : List Declared) → Indexes names.now (lifetime_names method.now.lifetime_env)
         → OnOk result (Reports all (map (λ l. tested_at at.entry (lifetime method.now.lifetime_env l)) (flat_map lifetime_name (method_lifetimes method.now))) reports.old.items reports.new.items) }
 {
     let env = &method.lifetime_env;
@@ -300,82 +304,134 @@ fn test_lifetimes<'a>(
     test_returned_lifetime(reports, at, names, env, &method.return_type)
 }
 
-/// Tests the rules in a method of the item.
+/// Tests the rules in a method of the item of that place.
 fn test_method<'a>(
     alloc: Global,
     reports: &mut Vec<Report<'a>>,
-    item: &'a Text,
-    items: &NameIndex,
+    item: At<'a>,
+    env: &Env,
     method: &'a Method,
 ) -> Result<(), NoMemory>
-    requires { IsSoundEnvironment method.now.lifetime_env }
-    ensures { (all : List Item) → Indexes items.now (item_names all)
-        → OnOk result (Reports all (tested_in_method item.now method.now) reports.old.items reports.new.items) }
+    requires within { item.number < length env.now }
+    requires sound { IsSoundEnvironment method.now.lifetime_env }
+    ensures { OnOk result (Reports env.now (tested_in_method item.entry.number item.entry.path.now item.entry.item.now method.now) reports.old.items reports.new.items) }
 {
     let at = At {
-        item,
+        number: item.number,
+        path: item.path,
+        item: item.item,
         method: Some(&method.name),
     };
     let Some(names) = index_lifetimes(alloc, &method.lifetime_env)? else {
         unreachable!()
     };
     test_names(reports, at, method)?;
-    test_paths(reports, at, items, method)?;
+    test_paths(reports, at, env, method)?;
     test_lifetimes(reports, at, &names, method)
 }
 
 fn test_methods<'a>(
     alloc: Global,
     reports: &mut Vec<Report<'a>>,
-    item: &'a Text,
-    items: &NameIndex,
+    item: At<'a>,
+    env: &Env,
     methods: &'a [Method],
 ) -> Result<(), NoMemory>
-    requires { All (λ method. IsSoundEnvironment method.lifetime_env) methods.now }
-    ensures { (all : List Item) → Indexes items.now (item_names all)
-        → OnOk result (Reports all (flat_map (tested_in_method item.now) methods.now) reports.old.items reports.new.items) }
+    requires within { item.number < length env.now }
+    requires sound { All (λ method. IsSoundEnvironment method.lifetime_env) methods.now }
+    ensures { OnOk result (Reports env.now (flat_map (tested_in_method item.entry.number item.entry.path.now item.entry.item.now) methods.now) reports.old.items reports.new.items) }
 {
     for method in methods {
-        test_method(alloc, reports, item, items, method)?;
+        test_method(alloc, reports, item, env, method)?;
     }
     Ok(())
 }
 
-/// Tests the rules in an item: its name, and then its methods.
+/// Tests the rules in an item of the module of that number and path: its name, and then its methods.
 fn test_item<'a>(
     alloc: Global,
     reports: &mut Vec<Report<'a>>,
-    items: &NameIndex,
+    number: usize,
+    path: &'a [Text],
+    env: &Env,
     item: &'a Item,
 ) -> Result<(), NoMemory>
-    requires { HasSoundMethods item.now }
-    ensures { (all : List Item) → Indexes items.now (item_names all)
-        → OnOk result (Reports all (tested_in_item item.now) reports.old.items reports.new.items) }
+    requires within { number < length env.now }
+    requires sound { HasSoundMethods item.now }
+    ensures { OnOk result (Reports env.now (tested_in_item number path.now item.now) reports.old.items reports.new.items) }
 {
     let name = name_of(item);
-    test_name(
-        reports,
-        At {
-            item: name,
-            method: None,
-        },
-        name,
-    )?;
-    test_methods(alloc, reports, name, items, methods(item))
+    let at = At {
+        number,
+        path,
+        item: name,
+        method: None,
+    };
+    test_name(reports, at, name)?;
+    test_methods(alloc, reports, at, env, methods(item))
 }
 
-/// The faults of the declarations, in the order of the items.
-pub fn faults_in(alloc: Global, root: &Module) -> Result<Vec<Report<'_>>, NoMemory>
-    requires { AreSound root.now }
-    ensures { IfOk result (λ reports. Chosen (TestFails root.now.items) (tested_in root.now.items) (map tested_of reports.items)) }
+fn test_items<'a>(
+    alloc: Global,
+    reports: &mut Vec<Report<'a>>,
+    number: usize,
+    path: &'a [Text],
+    env: &Env,
+    items: &'a [Item],
+) -> Result<(), NoMemory>
+    requires within { number < length env.now }
+    requires sound { All HasSoundMethods items.now }
+    ensures { OnOk result (Reports env.now (flat_map (tested_in_item number path.now) items.now) reports.old.items reports.new.items) }
 {
-    let items = root.items.as_slice();
-    let Some(names) = index_items(alloc, items)? else {
-        unreachable!()
-    };
-    let mut reports = Vec::new(alloc);
     for item in items {
-        test_item(alloc, &mut reports, &names, item)?;
+        test_item(alloc, reports, number, path, env, item)?;
+    }
+    Ok(())
+}
+
+/// Tests the rules in the module of that number.
+fn test_module<'a>(
+    alloc: Global,
+    reports: &mut Vec<Report<'a>>,
+    number: usize,
+    env: &Env,
+    declared: &'a Module,
+) -> Result<(), NoMemory>
+    requires within { number < length env.now }
+    requires sound { HasSoundItems declared.now }
+    ensures { OnOk result (Reports env.now (tested_in_module number declared.now) reports.old.items reports.new.items) }
+{
+    let path = declared.path.as_slice();
+    test_items(alloc, reports, number, path, env, declared.items.as_slice())
+}
+
+/// Tests the rules in the module of that number, if there is one.
+fn test_number<'a>(
+    alloc: Global,
+    reports: &mut Vec<Report<'a>>,
+    env: &'a Env,
+    number: usize,
+) -> Result<(), NoMemory>
+    ensures { OnOk result (Reports env.now (tested_at_number env.now number) reports.old.items reports.new.items) }
+{
+    match at(env.modules(), number) {
+        Some(module) => test_module(alloc, reports, number, env, module),
+        None => Ok(()),
+    }
+}
+
+/// The faults of the declarations of an environment, in the order in which modules are gone through.
+pub fn faults_in<'a>(
+    alloc: Global,
+    env: &'a Env,
+    order: &[usize],
+) -> Result<Vec<Report<'a>>, NoMemory>
+    requires { order.now ≡ walk_order env.now }
+    ensures { IfOk result (λ reports. Chosen (TestFails env.now) (tested_in env.now) (map tested_of reports.items)) }
+{
+    let mut reports = Vec::new(alloc);
+    for number in order {
+        test_number(alloc, &mut reports, env, *number)?;
     }
     Ok(reports)
 }

@@ -1,18 +1,21 @@
 //! The whole program over any source and any sink.
 
 ghost use Rattle.std.specs.Prelude.{◌≡◌, ◌≢◌, ◌≤◌, ◌<◌, ◌+◌, ◌^◌, ◌↔◌, ◌⊎◌, ℕ, List, length, map, IfSome, IsTrue};
-ghost use Rattle.bridge_tool.specs.Judging.{IsSound, Judges};
+ghost use Rattle.bridge_ast.specs.declared.modules.Module.{Module as Declared};
+ghost use Rattle.bridge_ast.specs.Sound.{AreSound};
+ghost use Rattle.bridge_tool.specs.Judging.{Judges};
 ghost use Rattle.bridge_tool.specs.Breaks.{BreakNothing};
 ghost use Rattle.bridge_tool.specs.Checks.{tested_in};
 ghost use Rattle.bridge_tool.specs.Chosen.{Chosen};
 ghost use Rattle.bridge_tool.specs.Headline.{Headline, IsComplete, IsUndisturbed};
 ghost use Rattle.bridge_tool.specs.Outside.{Rose, left_after};
 ghost use Rattle.bridge_tool.specs.Reports.{TestFails, tested_of};
-ghost use Rattle.bridge_tool.specs.Sound.{AreSound};
+ghost use Rattle.bridge_tool.specs.Walking.{walk_order};
 ghost use Rattle.bridge_tool.specs.Running.{Accepts, Answered, AreCommand, Declines, IsUnfinished, Ran, Refuses, Spells, Told, ended_with, world};
 
 use crate::borrow::reports_of;
 use crate::bytes::{ReadFault, read_all};
+use crate::decline::print_fault;
 use crate::faults::Report;
 use crate::judge::judge;
 use crate::lines::print_lines;
@@ -23,6 +26,8 @@ use crate::sink::{Sink, SinkFault};
 use crate::source::Source;
 use crate::status::Status;
 use crate::verdict::Verdict;
+use crate::walk::walk_order;
+use bridge_ast::environment::Env;
 use bridge_ast::modules::Module;
 use std::alloc::{AllocError, Global};
 
@@ -49,14 +54,15 @@ fn ended(verdict: Status, printed: Result<(), SinkFault>) -> Status
 }
 
 /// Prints the page of declarations that break no rule.
-fn accept<K: Sink>(alloc: Global, sink: &mut K, root: &Module) -> Status
-    requires sound { AreSound root.now }
-    requires keep { BreakNothing root.now }
-    ensures { Told root.now (K.taken sink.old) (K.taken sink.new) (K.faults sink.old) (K.faults sink.new) result }
+fn accept<K: Sink>(alloc: Global, sink: &mut K, modules: &[Module], order: &[usize]) -> Status
+    requires order { order.now ≡ walk_order modules.now }
+    requires sound { AreSound modules.now }
+    requires keep { BreakNothing modules.now }
+    ensures { Told modules.now (K.taken sink.old) (K.taken sink.new) (K.faults sink.old) (K.faults sink.new) result }
 {
-    match reports_of(alloc, root) {
+    match reports_of(alloc, modules, order) {
         Ok(reports) => {
-            let printed = print_page(sink, root, &reports);
+            let printed = print_page(sink, modules, order, &reports);
             ended(Status::Accepted, printed)
         }
         Err(AllocError) => Status::NoMemory,
@@ -64,49 +70,65 @@ fn accept<K: Sink>(alloc: Global, sink: &mut K, root: &Module) -> Status
 }
 
 /// Prints the reports of declarations that have these faults.
-fn refuse<K: Sink>(sink: &mut K, root: &Module, faults: &[Report<'_>]) -> Status
-    requires some { 1 ≤ length faults.now }
-    requires faults { Chosen (TestFails root.now.items) (tested_in root.now.items) (map tested_of faults.now) }
-    ensures { Told root.now (K.taken sink.old) (K.taken sink.new) (K.faults sink.old) (K.faults sink.new) result }
+fn refuse<K: Sink>(sink: &mut K, faults: &[Report<'_>]) -> Status
+    requires { 1 ≤ length faults.now }
+    ensures { (modules : List Declared) → Chosen (TestFails modules) (tested_in modules) (map tested_of faults.now)
+        → Told modules (K.taken sink.old) (K.taken sink.new) (K.faults sink.old) (K.faults sink.new) result }
 {
-    let printed = print_lines(sink, root, faults);
+    let printed = print_lines(sink, faults);
     ended(Status::Refused, printed)
 }
 
 /// Prints the page of declarations, or the reports of their faults where they have any.
-fn tell_of<K: Sink>(alloc: Global, sink: &mut K, root: &Module, faults: &[Report<'_>]) -> Status
-    requires sound { AreSound root.now }
-    requires faults { Chosen (TestFails root.now.items) (tested_in root.now.items) (map tested_of faults.now) }
-    ensures { Told root.now (K.taken sink.old) (K.taken sink.new) (K.faults sink.old) (K.faults sink.new) result }
+fn tell_of<K: Sink>(
+    alloc: Global,
+    sink: &mut K,
+    modules: &[Module],
+    order: &[usize],
+    faults: &[Report<'_>],
+) -> Status
+    requires order { order.now ≡ walk_order modules.now }
+    requires sound { AreSound modules.now }
+    requires faults { Chosen (TestFails modules.now) (tested_in modules.now) (map tested_of faults.now) }
+    ensures { Told modules.now (K.taken sink.old) (K.taken sink.new) (K.faults sink.old) (K.faults sink.new) result }
 {
     if faults.is_empty() {
-        accept(alloc, sink, root)
+        accept(alloc, sink, modules, order)
     } else {
-        refuse(sink, root, faults)
+        refuse(sink, faults)
     }
 }
 
-/// Tests the rules of declarations that fit together, and prints their page or their reports.
-fn tell<K: Sink>(alloc: Global, sink: &mut K, root: &Module) -> Status
-    requires { AreSound root.now }
-    ensures { Told root.now (K.taken sink.old) (K.taken sink.new) (K.faults sink.old) (K.faults sink.new) result }
+/// The same, of the modules in the order in which they are gone through.
+fn tell_in<K: Sink>(alloc: Global, sink: &mut K, env: &Env, order: &[usize]) -> Status
+    requires { order.now ≡ walk_order env.now }
+    ensures { Told env.now (K.taken sink.old) (K.taken sink.new) (K.faults sink.old) (K.faults sink.new) result }
 {
-    match faults_in(alloc, root) {
-        Ok(faults) => tell_of(alloc, sink, root, &faults),
+    match faults_in(alloc, env, order) {
+        Ok(faults) => tell_of(alloc, sink, env.modules(), order, &faults),
+        Err(AllocError) => Status::NoMemory,
+    }
+}
+
+/// Tests the rules of the declarations of an environment, and prints their page or their reports.
+pub fn tell<K: Sink>(alloc: Global, sink: &mut K, env: &Env) -> Status
+    ensures { Told env.now (K.taken sink.old) (K.taken sink.new) (K.faults sink.old) (K.faults sink.new) result }
+{
+    match walk_order(alloc, env.modules()) {
+        Ok(order) => tell_in(alloc, sink, env, &order),
         Err(AllocError) => Status::NoMemory,
     }
 }
 
 /// Prints what a verdict says: the page, the reports, or one line.
 fn answer<K: Sink>(alloc: Global, sink: &mut K, verdict: &Verdict) -> Status
-    requires { IsSound verdict.now }
     ensures { (bytes : List ℕ) → Judges bytes verdict.now
         → Answered bytes (K.taken sink.old) (K.taken sink.new) (K.faults sink.old) (K.faults sink.new) result }
 {
     match verdict {
-        Verdict::Declarations(root) => tell(alloc, sink, root),
-        Verdict::NotJson => {
-            let printed = print_line(sink, "input: not JSON");
+        Verdict::Declarations(env) => tell(alloc, sink, env),
+        Verdict::Faulty(kind, pointer) => {
+            let printed = print_fault(sink, *kind, pointer.as_str());
             ended(Status::NotDeclarations, printed)
         }
         Verdict::NotBuilt => {
@@ -154,16 +176,16 @@ fn run_to_status<S: Source, K: Sink>(
 /// that they break, or one line that says why there are no declarations. The answer is the status of the program, at most 7.
 ///
 /// The words are those after the program's name. Statuses: 0 where the declarations are accepted, 1 where they break
-/// a rule, 2 where the bytes spell no declarations that fit together, 3 where a read failed, 4 where a write failed, 5 where
+/// a rule, 2 where the bytes spell no declarations that fit together and are built, 3 where a read failed, 4 where a write failed, 5 where
 /// memory ran out, 6 where the words are no command, 7 where the source gave more than 2^26 bytes. With 3, 6 and 7 nothing is
 /// written, and with 6 nothing is read. It makes at most 2^26 + 2 reads.
 pub fn run<S: Source, K: Sink>(alloc: Global, words: &[String], source: &mut S, sink: &mut K) -> u8
     // Where the source's bytes are told, at most 2^26, and spell declarations, and nothing fails: it ends with 0 exactly where no
     // declaration breaks a rule, and prints their page; else it ends with 1, and prints reports of the broken rules.
-    ensures headline { (had : List ℕ) (root : Module) → IsUndisturbed words.now
+    ensures headline { (had : List ℕ) (modules : List Declared) → IsUndisturbed words.now
         (world (S.left source.old) (S.faults source.old) (K.taken sink.old) (K.faults sink.old))
         (world (S.left source.new) (S.faults source.new) (K.taken sink.new) (K.faults sink.new)) had
-        → length had ≤ 2 ^ 26 → Spells had root → result ≢ 5 → Headline root
+        → length had ≤ 2 ^ 26 → Spells had modules → result ≢ 5 → Headline modules
         (world (S.left source.old) (S.faults source.old) (K.taken sink.old) (K.faults sink.old))
         (world (S.left source.new) (S.faults source.new) (K.taken sink.new) (K.faults sink.new)) result }
     // The same, with want of memory as the one other answer, and 2 where the bytes spell no declarations.

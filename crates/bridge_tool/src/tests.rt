@@ -1,6 +1,9 @@
 //! Tests, one module a subject.
 
+mod declared;
+mod examples;
 mod inputs;
+mod modules;
 mod outside;
 mod reading;
 mod running;

@@ -1,14 +1,16 @@
 //! What the bytes of an input are.
 
-use bridge_ast::modules::Module;
+use crate::read::fault::InputKind;
+use bridge_ast::environment::Env;
+use bridge_ast::text::Text;
 
 /// What the bytes of an input are.
 #[derive(Drop)]
 pub enum Verdict {
-    /// They spell these declarations, which fit together.
-    Declarations(Module),
-    /// They are no JSON text.
-    NotJson,
-    /// They are a JSON text that spells no declarations, or declarations that don't fit together.
+    /// They spell an input with the declarations of this environment, all of which are checked so far.
+    Declarations(Env),
+    /// They spell no input: this is the first fault, and the JSON pointer at which it stands.
+    Faulty(InputKind, Text),
+    /// They spell an input of which not all is checked so far.
     NotBuilt,
 }

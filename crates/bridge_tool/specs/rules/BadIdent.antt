@@ -7,8 +7,9 @@ use Rattle.bridge_tool.specs.Checks.{name}
 use Rattle.bridge_tool.specs.Tested.{StandsAt}
 
 -- the name stands there, and the argument is the name
-pub record BadIdent (root : Module) (place : Place) (args : List (List ℕ)) : Type 0 where
+pub record BadIdent (modules : List Module) (place : Place) (args : List (List ℕ)) : Type 0 where
+  pub number : ℕ
   pub name_there : List ℕ
-  pub stands : StandsAt root place (name name_there)
+  pub stands : StandsAt modules number place (name name_there)
   pub broken : ¬ (IsIdent name_there)
   pub arguments : args ≡ name_there ∷ []

@@ -8,9 +8,10 @@ use Rattle.bridge_tool.specs.Checks.{lifetime}
 use Rattle.bridge_tool.specs.Tested.{StandsAt}
 
 -- the lifetime is used there, under an environment that doesn't have its name; the argument is the name
-pub record LifetimeUnknown (root : Module) (place : Place) (args : List (List ℕ)) : Type 0 where
+pub record LifetimeUnknown (modules : List Module) (place : Place) (args : List (List ℕ)) : Type 0 where
+  pub number : ℕ
   pub env : LifetimeEnv
   pub used : List ℕ
-  pub stands : StandsAt root place (lifetime env used)
+  pub stands : StandsAt modules number place (lifetime env used)
   pub broken : ¬ (Contains (lifetime_names env) used)
   pub arguments : args ≡ used ∷ []

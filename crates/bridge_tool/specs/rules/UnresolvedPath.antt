@@ -1,14 +1,19 @@
--- UnresolvedPath: a path names nothing.
+-- UnresolvedPath: a path names no struct, opaque or enum.
 use Rattle.std.specs.Prelude.{◌≡◌, ℕ, List, [], ◌∷◌}
+use Rattle.bridge_ast.specs.declared.environment.walk.ItemPlace.{ItemPlace}
+use Rattle.bridge_ast.specs.declared.modules.Item.{Item}
 use Rattle.bridge_ast.specs.declared.modules.Module.{Module}
 use Rattle.bridge_ast.specs.declared.paths.PathType.{PathType}
-use Rattle.bridge_ast.specs.Names.{Names, Place, path_text}
+use Rattle.bridge_ast.specs.Names.{Place, path_text}
+use Rattle.bridge_ast.specs.Types.{NamesType}
 use Rattle.bridge_tool.specs.Checks.{path}
 use Rattle.bridge_tool.specs.Tested.{StandsAt}
 
--- the path stands there, and the argument is the path as it is written
-pub record UnresolvedPath (root : Module) (place : Place) (args : List (List ℕ)) : Type 0 where
+-- the path stands there, in the module of that number, and names nothing when it is read in that module; the argument is the path
+-- as it is written
+pub record UnresolvedPath (modules : List Module) (place : Place) (args : List (List ℕ)) : Type 0 where
+  pub number : ℕ
   pub path_there : PathType
-  pub stands : StandsAt root place (path path_there)
-  pub broken : ¬ ((named : ℕ) × Names root.items path_there named)
+  pub stands : StandsAt modules number place (path path_there)
+  pub broken : (item : Item) (named : ItemPlace) → ¬ NamesType modules number path_there.segments item named
   pub arguments : args ≡ path_text path_there ∷ []

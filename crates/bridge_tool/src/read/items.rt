@@ -1,84 +1,259 @@
-//! Items, the root that they stand in, and the whole input.
+//! Items, whose keys depend on their kind.
 
-ghost use Rattle.std.specs.Prelude.{◌≡◌, IfOk, option_map};
+ghost use Rattle.std.specs.Prelude.{◌≡◌};
 ghost use Rattle.serde_json.specs.View.{view};
-ghost use Rattle.bridge_tool.specs.Spelling.{opaque_of};
-ghost use Rattle.bridge_tool.specs.Reading.{Gives, list_of, item_of, root_of, input_of};
+ghost use Rattle.bridge_tool.specs.Form.{object_with};
+ghost use Rattle.bridge_tool.specs.Reading.{Gives};
+ghost use Rattle.bridge_tool.specs.forms.Items.{struct_parts, opaque_parts, enum_parts, trait_parts, function_parts};
 
-use crate::keys::Key;
-use crate::read::absent::{no_attrs, no_docs};
+use crate::read::docs::documented;
 use crate::read::fault::ReadFault;
-use crate::read::methods::methods;
-use crate::read::objects::{entries, kept, needed, only, text_under, under};
-use bridge_ast::Items;
+use crate::read::keys::Key;
+use crate::read::lifetimes::mutability;
+use crate::read::methods::{or_name, signed};
+use crate::read::objects::{object, only};
+use crate::read::reading::{FromForm, flag_under, listed, needed, optional};
+use crate::read::words::ItemKind;
+use bridge_ast::enums::{Enum, Variant};
+use bridge_ast::functions::Function;
 use bridge_ast::lifetimes::LifetimeEnv;
-use bridge_ast::methods::Method;
-use bridge_ast::modules::{Item, Module};
-use bridge_ast::structs::OpaqueType;
-use bridge_ast::text::{NoMemory, Text};
-use bridge_ast::types::Mutability;
+use bridge_ast::modules::Item;
+use bridge_ast::structs::{Field, OpaqueType, Struct};
+use bridge_ast::traits::Trait;
 use serde_json::Value;
 use std::alloc::Global;
 
-/// The opaque of that name with these methods.
-fn opaque_of(alloc: Global, name: &str, methods: Items<Method>) -> Result<Item, NoMemory>
-    ensures { IfOk result (λ item. item ≡ opaque_of name.now methods) }
+#[tactic(auto, unfolding(crate::specs::forms::Items::field, crate::specs::forms::Docs::documented))]
+impl FromForm for Field {
+    ghost use Rattle.bridge_tool.specs.forms.Items.{field};
+
+    ghost form = { field.read };
+
+    fn from_form(alloc: Global, value: &Value) -> Result<Field, ReadFault> {
+        only(alloc, value, &[Key::Name, Key::Ty, Key::Docs, Key::Attrs])?;
+        let name = needed(alloc, value, Key::Name)?;
+        let ty = needed(alloc, value, Key::Ty)?;
+        let (docs, attrs) = documented(alloc, value)?;
+        Ok(Field {
+            name,
+            ty,
+            docs,
+            attrs,
+        })
+    }
+}
+
+#[tactic(auto, unfolding(crate::specs::forms::Items::variant, crate::specs::forms::Docs::documented))]
+impl FromForm for Variant {
+    ghost use Rattle.bridge_tool.specs.forms.Items.{variant};
+
+    ghost form = { variant.read };
+
+    fn from_form(alloc: Global, value: &Value) -> Result<Variant, ReadFault> {
+        only(
+            alloc,
+            value,
+            &[Key::Name, Key::Discriminant, Key::Docs, Key::Attrs],
+        )?;
+        let name = needed(alloc, value, Key::Name)?;
+        let discriminant = needed(alloc, value, Key::Discriminant)?;
+        let (docs, attrs) = documented(alloc, value)?;
+        Ok(Variant {
+            name,
+            discriminant,
+            docs,
+            attrs,
+        })
+    }
+}
+
+/// A struct, or an out-struct.
+#[tactic(auto, unfolding(crate::specs::forms::Docs::documented))]
+fn struct_item(alloc: Global, value: &Value, output_only: bool) -> Result<Item, ReadFault>
+    ensures { Gives result ((object_with (struct_parts output_only)).read (view value.now)) }
 {
-    Ok(Item::Opaque(OpaqueType {
-        name: Text::new(alloc, name)?,
-        lifetimes: LifetimeEnv {
-            nodes: Items::new(alloc),
-        },
-        mutability: Mutability::Immutable,
+    only(
+        alloc,
+        value,
+        &[
+            Key::Kind,
+            Key::Name,
+            Key::Lifetimes,
+            Key::Fields,
+            Key::Methods,
+            Key::Docs,
+            Key::Attrs,
+        ],
+    )?;
+    let name = needed(alloc, value, Key::Name)?;
+    let nodes = listed(alloc, value, Key::Lifetimes)?;
+    let fields = listed(alloc, value, Key::Fields)?;
+    let methods = listed(alloc, value, Key::Methods)?;
+    let (docs, attrs) = documented(alloc, value)?;
+    Ok(Item::Struct(Struct {
+        name,
+        lifetimes: LifetimeEnv { nodes },
+        fields,
         methods,
-        dtor_abi_name: Text::new(alloc, name)?,
-        docs: no_docs(alloc),
-        attrs: no_attrs(alloc),
+        output_only,
+        docs,
+        attrs,
     }))
 }
 
-/// `{"kind": "opaque", "name": text, "methods": [methods]}`.
-#[tactic(auto, unfolding(crate::specs::Reading::item_of))]
-fn item(alloc: Global, value: &Value) -> Result<Item, ReadFault>
-    ensures { Gives result (item_of (view value.now)) }
+/// An opaque.
+#[tactic(auto, unfolding(crate::specs::forms::Items::opaque_parts, crate::specs::forms::Docs::documented))]
+fn opaque(alloc: Global, value: &Value) -> Result<Item, ReadFault>
+    ensures { Gives result ((object_with opaque_parts).read (view value.now)) }
 {
-    only(value, &[Key::Kind, Key::Name, Key::Methods])?;
-    kept(text_under(value, Key::Kind)? == "opaque")?;
-    let name = text_under(value, Key::Name)?;
-    let methods = methods(alloc, name, under(value, Key::Methods))?;
-    Ok(opaque_of(alloc, name, methods)?)
+    only(
+        alloc,
+        value,
+        &[
+            Key::Kind,
+            Key::Name,
+            Key::Lifetimes,
+            Key::Mutable,
+            Key::Methods,
+            Key::DtorAbiName,
+            Key::Docs,
+            Key::Attrs,
+        ],
+    )?;
+    let name = needed(alloc, value, Key::Name)?;
+    let nodes = listed(alloc, value, Key::Lifetimes)?;
+    let mutable = flag_under(alloc, value, Key::Mutable)?;
+    let methods = listed(alloc, value, Key::Methods)?;
+    let dtor = optional(alloc, value, Key::DtorAbiName)?;
+    let (docs, attrs) = documented(alloc, value)?;
+    Ok(Item::Opaque(OpaqueType {
+        dtor_abi_name: or_name(alloc, &name, dtor)?,
+        name,
+        lifetimes: LifetimeEnv { nodes },
+        mutability: mutability(mutable),
+        methods,
+        docs,
+        attrs,
+    }))
 }
 
-fn items(alloc: Global, found: Option<&Value>) -> Result<Items<Item>, ReadFault>
-    ensures { Gives result (list_of item_of (option_map (λ v. view v.now) found.entry)) }
+/// An enum.
+#[tactic(auto, unfolding(crate::specs::forms::Items::enum_parts, crate::specs::forms::Docs::documented))]
+fn enum_item(alloc: Global, value: &Value) -> Result<Item, ReadFault>
+    ensures { Gives result ((object_with enum_parts).read (view value.now)) }
 {
-    let mut items = Vec::new(alloc);
-    for entry in entries(found)? {
-        items.push(item(alloc, entry)?)?;
+    only(
+        alloc,
+        value,
+        &[
+            Key::Kind,
+            Key::Name,
+            Key::Variants,
+            Key::Methods,
+            Key::Docs,
+            Key::Attrs,
+        ],
+    )?;
+    let name = needed(alloc, value, Key::Name)?;
+    let variants = listed(alloc, value, Key::Variants)?;
+    let methods = listed(alloc, value, Key::Methods)?;
+    let (docs, attrs) = documented(alloc, value)?;
+    Ok(Item::Enum(Enum {
+        name,
+        variants,
+        methods,
+        docs,
+        attrs,
+    }))
+}
+
+/// A trait.
+#[tactic(auto, unfolding(crate::specs::forms::Items::trait_parts, crate::specs::forms::Docs::documented))]
+fn trait_item(alloc: Global, value: &Value) -> Result<Item, ReadFault>
+    ensures { Gives result ((object_with trait_parts).read (view value.now)) }
+{
+    only(
+        alloc,
+        value,
+        &[
+            Key::Kind,
+            Key::Name,
+            Key::Lifetimes,
+            Key::Methods,
+            Key::IsSend,
+            Key::IsSync,
+            Key::Docs,
+            Key::Attrs,
+        ],
+    )?;
+    let name = needed(alloc, value, Key::Name)?;
+    let nodes = listed(alloc, value, Key::Lifetimes)?;
+    let methods = listed(alloc, value, Key::Methods)?;
+    let is_send = flag_under(alloc, value, Key::IsSend)?;
+    let is_sync = flag_under(alloc, value, Key::IsSync)?;
+    let (docs, attrs) = documented(alloc, value)?;
+    Ok(Item::Trait(Trait {
+        name,
+        lifetimes: LifetimeEnv { nodes },
+        methods,
+        is_send,
+        is_sync,
+        docs,
+        attrs,
+    }))
+}
+
+/// A function.
+#[tactic(auto, unfolding(crate::specs::forms::Items::function_parts, crate::specs::forms::Methods::signature, crate::specs::forms::Docs::documented))]
+fn function(alloc: Global, value: &Value) -> Result<Item, ReadFault>
+    ensures { Gives result ((object_with function_parts).read (view value.now)) }
+{
+    only(
+        alloc,
+        value,
+        &[
+            Key::Kind,
+            Key::Name,
+            Key::AbiName,
+            Key::Lifetimes,
+            Key::Params,
+            Key::Ret,
+            Key::Docs,
+            Key::Attrs,
+        ],
+    )?;
+    let name = needed(alloc, value, Key::Name)?;
+    let abi_name = optional(alloc, value, Key::AbiName)?;
+    let signature = signed(alloc, value)?;
+    let (docs, attrs) = documented(alloc, value)?;
+    Ok(Item::Function(Function {
+        abi_name: or_name(alloc, &name, abi_name)?,
+        name,
+        lifetimes: LifetimeEnv {
+            nodes: signature.nodes,
+        },
+        params: signature.params,
+        output_type: signature.returned,
+        docs,
+        attrs,
+    }))
+}
+
+#[tactic(auto, unfolding(crate::specs::forms::Items::item_form))]
+impl FromForm for Item {
+    ghost use Rattle.bridge_tool.specs.forms.Items.{item_form};
+
+    ghost form = { item_form.read };
+
+    fn from_form(alloc: Global, value: &Value) -> Result<Item, ReadFault> {
+        object(alloc, value)?;
+        match needed(alloc, value, Key::Kind)? {
+            ItemKind::Struct => struct_item(alloc, value, false),
+            ItemKind::OutStruct => struct_item(alloc, value, true),
+            ItemKind::Opaque => opaque(alloc, value),
+            ItemKind::Enum => enum_item(alloc, value),
+            ItemKind::Trait => trait_item(alloc, value),
+            ItemKind::Function => function(alloc, value),
+        }
     }
-    Ok(Items::from_vec(items))
-}
-
-/// `{"items": [items]}`, the root.
-#[tactic(auto, unfolding(crate::specs::Reading::root_of))]
-fn root(alloc: Global, value: &Value) -> Result<Module, ReadFault>
-    ensures { Gives result (root_of (view value.now)) }
-{
-    only(value, &[Key::Items])?;
-    let items = items(alloc, under(value, Key::Items))?;
-    Ok(Module {
-        path: Items::new(alloc),
-        attrs: no_attrs(alloc),
-        items,
-        aliases: Items::new(alloc),
-    })
-}
-
-/// `{"root": root}`.
-#[tactic(auto, unfolding(crate::specs::Reading::input_of))]
-pub fn input(alloc: Global, value: &Value) -> Result<Module, ReadFault>
-    ensures { Gives result (input_of (view value.now)) }
-{
-    only(value, &[Key::Root])?;
-    root(alloc, needed(value, Key::Root)?)
 }

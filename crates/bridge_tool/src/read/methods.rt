@@ -1,232 +1,237 @@
-//! Methods, their receivers, parameters and lifetimes.
+//! Parameters, receivers and methods.
 
-ghost use Rattle.std.specs.Prelude.{◌≡◌, IfOk, option_map};
+ghost use Rattle.std.specs.Prelude.{◌≡◌, IfOk};
 ghost use Rattle.serde_json.specs.View.{view};
-ghost use Rattle.bridge_tool.specs.Keys.{under};
-ghost use Rattle.bridge_tool.specs.Reading.{Gives, GivesBy, list_of, optional_of, number_of, path_to, node_of, param_of, borrow_of, receiver_of, return_of, signature_of, method_by, method_of};
+ghost use Rattle.bridge_tool.specs.Form.{read_alone};
+ghost use Rattle.bridge_tool.specs.Reading.{Gives};
+ghost use Rattle.bridge_tool.specs.forms.Methods.{method_head, or_else, signature, trait_signature};
 
-use crate::keys::Key;
-use crate::read::absent::{no_attrs, no_docs};
+use crate::read::attrs::no_attrs;
+use crate::read::docs::documented;
 use crate::read::fault::ReadFault;
-use crate::read::objects::{entries, kept, needed, only, text_under, under};
-use crate::read::types::{lifetime, one_segment, path, ref_type, returned};
+use crate::read::keys::Key;
+use crate::read::objects::only;
+use crate::read::reading::{FromForm, held, listed, needed, optional};
 use bridge_ast::Items;
-use bridge_ast::lifetimes::{Lifetime, LifetimeEnv, LifetimeNode};
+use bridge_ast::lifetimes::{LifetimeEnv, LifetimeNode};
 use bridge_ast::methods::{Method, Param, SelfParam};
 use bridge_ast::paths::PathType;
 use bridge_ast::text::{NoMemory, Text};
-use bridge_ast::types::{Mutability, TypeName};
+use bridge_ast::traits::{TraitMethod, TraitSelfParam};
+use bridge_ast::types::TypeName;
 use serde_json::Value;
 use std::alloc::Global;
 
-/// The path of the item of that name, where the value spells it.
-#[tactic(auto, unfolding(crate::specs::Reading::path_to))]
-fn path_to(alloc: Global, item: &str, value: &Value) -> Result<PathType, ReadFault>
-    ensures { Gives result (path_to item.now (view value.now)) }
+/// The name that is given, or the one that its absence stands for.
+pub fn or_name(alloc: Global, name: &Text, given: Option<Text>) -> Result<Text, NoMemory>
+    ensures { IfOk result (λ text. text ≡ or_else name.now given) }
 {
-    let segment = path(value)?;
-    kept(segment == item)?;
-    Ok(one_segment(alloc, Text::new(alloc, segment)?)?)
-}
-
-fn number(value: &Value) -> Result<usize, ReadFault>
-    ensures { Gives result (number_of (view value.now)) }
-{
-    match value.as_u64() {
-        Some(number) => Ok(number as usize),
-        None => Err(ReadFault::FormNotBuilt),
+    match given {
+        Some(given) => Ok(given),
+        None => name.try_clone(alloc),
     }
 }
 
-fn numbers(alloc: Global, found: Option<&Value>) -> Result<Items<usize>, ReadFault>
-    ensures { Gives result (list_of number_of (option_map (λ v. view v.now) found.entry)) }
-{
-    let mut numbers = Vec::new(alloc);
-    for entry in entries(found)? {
-        numbers.push(number(entry)?)?;
-    }
-    Ok(Items::from_vec(numbers))
-}
+#[tactic(auto, unfolding(crate::specs::forms::Methods::param))]
+impl FromForm for Param {
+    ghost use Rattle.bridge_tool.specs.forms.Methods.{param};
 
-/// `{"name": text, "longer": [numbers], "shorter": [numbers]}`.
-#[tactic(auto, unfolding(crate::specs::Reading::node_of))]
-fn node(alloc: Global, value: &Value) -> Result<LifetimeNode, ReadFault>
-    ensures { Gives result (node_of (view value.now)) }
-{
-    only(value, &[Key::Name, Key::Longer, Key::Shorter])?;
-    let name = text_under(value, Key::Name)?;
-    let longer = numbers(alloc, under(value, Key::Longer))?;
-    let shorter = numbers(alloc, under(value, Key::Shorter))?;
-    Ok(LifetimeNode {
-        name: Text::new(alloc, name)?,
-        longer,
-        shorter,
-    })
-}
+    ghost form = { param.read };
 
-/// `{"name": text, "ty": {"ref": reference}}`.
-#[tactic(auto, unfolding(crate::specs::Reading::param_of))]
-fn param(alloc: Global, value: &Value) -> Result<Param, ReadFault>
-    ensures { Gives result (param_of (view value.now)) }
-{
-    only(value, &[Key::Name, Key::Ty])?;
-    let name = text_under(value, Key::Name)?;
-    let ty = ref_type(alloc, needed(value, Key::Ty)?)?;
-    Ok(Param {
-        name: Text::new(alloc, name)?,
-        ty,
-        attrs: no_attrs(alloc),
-    })
-}
-
-/// `{"lifetime": text}`, the borrow of a receiver: the lifetime's name.
-#[tactic(auto, unfolding(crate::specs::Reading::borrow_of))]
-fn borrow(value: &Value) -> Result<&str, ReadFault>
-    ensures { GivesBy (λ s. s.now) result (borrow_of (view value.now)) }
-{
-    only(value, &[Key::Lifetime])?;
-    lifetime(needed(value, Key::Lifetime)?)
-}
-
-/// `{"reference": borrow, "path": the path of the item}`.
-#[tactic(auto, unfolding(crate::specs::Reading::receiver_of))]
-fn receiver(alloc: Global, item: &str, value: &Value) -> Result<SelfParam, ReadFault>
-    ensures { Gives result (receiver_of item.now (view value.now)) }
-{
-    only(value, &[Key::Reference, Key::Path])?;
-    let lifetime = borrow(needed(value, Key::Reference)?)?;
-    let path_type = path_to(alloc, item, needed(value, Key::Path)?)?;
-    let lifetime = Lifetime::Named(Text::new(alloc, lifetime)?);
-    Ok(SelfParam {
-        reference: Some((lifetime, Mutability::Immutable)),
-        path_type,
-        attrs: no_attrs(alloc),
-    })
-}
-
-fn self_param(
-    alloc: Global,
-    item: &str,
-    found: Option<&Value>,
-) -> Result<Option<SelfParam>, ReadFault>
-    ensures { Gives result (optional_of (receiver_of item.now)
-        (option_map (λ v. view v.now) found.entry)) }
-{
-    match found {
-        Some(value) => Ok(Some(receiver(alloc, item, value)?)),
-        None => Ok(None),
+    fn from_form(alloc: Global, value: &Value) -> Result<Param, ReadFault> {
+        only(alloc, value, &[Key::Name, Key::Ty, Key::Attrs])?;
+        Ok(Param {
+            name: needed(alloc, value, Key::Name)?,
+            ty: needed(alloc, value, Key::Ty)?,
+            attrs: held(alloc, value, Key::Attrs, no_attrs(alloc))?,
+        })
     }
 }
 
-fn return_type(alloc: Global, found: Option<&Value>) -> Result<Option<TypeName>, ReadFault>
-    ensures { Gives result (optional_of return_of (option_map (λ v. view v.now) found.entry)) }
-{
-    match found {
-        Some(value) => Ok(Some(returned(alloc, value)?)),
-        None => Ok(None),
+#[tactic(auto, unfolding(crate::specs::forms::Methods::receiver))]
+impl FromForm for SelfParam {
+    ghost use Rattle.bridge_tool.specs.forms.Methods.{receiver};
+
+    ghost form = { receiver.read };
+
+    fn from_form(alloc: Global, value: &Value) -> Result<SelfParam, ReadFault> {
+        only(alloc, value, &[Key::Reference, Key::Path, Key::Attrs])?;
+        Ok(SelfParam {
+            reference: optional(alloc, value, Key::Reference)?,
+            path_type: needed(alloc, value, Key::Path)?,
+            attrs: held(alloc, value, Key::Attrs, no_attrs(alloc))?,
+        })
     }
 }
 
-fn nodes(alloc: Global, found: Option<&Value>) -> Result<Items<LifetimeNode>, ReadFault>
-    ensures { Gives result (list_of node_of (option_map (λ v. view v.now) found.entry)) }
-{
-    let mut nodes = Vec::new(alloc);
-    for entry in entries(found)? {
-        nodes.push(node(alloc, entry)?)?;
-    }
-    Ok(Items::from_vec(nodes))
-}
-
-fn params(alloc: Global, found: Option<&Value>) -> Result<Items<Param>, ReadFault>
-    ensures { Gives result (list_of param_of (option_map (λ v. view v.now) found.entry)) }
-{
-    let mut params = Vec::new(alloc);
-    for entry in entries(found)? {
-        params.push(param(alloc, entry)?)?;
-    }
-    Ok(Items::from_vec(params))
-}
-
-/// What a method declares, takes and returns.
+/// The lifetimes, the parameters and the return of a method or function.
 #[derive(Drop)]
-struct Signature {
-    nodes: Items<LifetimeNode>,
-    params: Items<Param>,
-    return_type: Option<TypeName>,
+pub struct Signature {
+    /// The declared lifetimes.
+    pub nodes: Items<LifetimeNode>,
+    /// The parameters.
+    pub params: Items<Param>,
+    /// The type of the return, if one is written.
+    pub returned: Option<TypeName>,
 }
 
-#[tactic(auto, unfolding(crate::specs::Reading::signature_of))]
-fn read_signature(alloc: Global, value: &Value) -> Result<Signature, ReadFault>
-    ensures { Gives result (signature_of (view value.now)) }
+/// The signature of a method or function.
+#[tactic(auto, unfolding(crate::specs::forms::Methods::signature))]
+pub fn signed(alloc: Global, value: &Value) -> Result<Signature, ReadFault>
+    ensures { Gives result (read_alone signature (view value.now)) }
 {
-    let nodes = nodes(alloc, under(value, Key::Lifetimes))?;
-    let params = params(alloc, under(value, Key::Params))?;
-    let return_type = return_type(alloc, under(value, Key::Ret))?;
     Ok(Signature {
-        nodes,
-        params,
-        return_type,
+        nodes: listed(alloc, value, Key::Lifetimes)?,
+        params: listed(alloc, value, Key::Params)?,
+        returned: optional(alloc, value, Key::Ret)?,
     })
 }
 
-fn method_by(
-    alloc: Global,
-    name: &str,
-    self_type: PathType,
-    self_param: Option<SelfParam>,
-    signature: Signature,
-) -> Result<Method, NoMemory>
-    ensures { IfOk result (λ method. method ≡ method_by name.now self_type self_param signature) }
+/// What stands before the signature of a method.
+#[derive(Drop)]
+pub struct MethodHead {
+    /// The name.
+    pub name: Text,
+    /// The name of the exported symbol.
+    pub abi_name: Text,
+    /// The type that the method belongs to.
+    pub self_type: PathType,
+    /// The receiver, if there is one.
+    pub self_param: Option<SelfParam>,
+}
+
+/// What stands before the signature of a method.
+#[tactic(auto, unfolding(crate::specs::forms::Methods::method_head))]
+fn method_head(alloc: Global, value: &Value) -> Result<MethodHead, ReadFault>
+    ensures { Gives result (read_alone method_head (view value.now)) }
 {
-    let Signature {
-        nodes,
-        params,
-        return_type,
-    } = signature;
-    Ok(Method {
-        name: Text::new(alloc, name)?,
-        abi_name: Text::new(alloc, name)?,
+    let name = needed(alloc, value, Key::Name)?;
+    let abi_name = optional(alloc, value, Key::AbiName)?;
+    let self_type = needed(alloc, value, Key::SelfType)?;
+    let self_param = optional(alloc, value, Key::Itself)?;
+    Ok(MethodHead {
+        abi_name: or_name(alloc, &name, abi_name)?,
+        name,
         self_type,
         self_param,
-        lifetime_env: LifetimeEnv { nodes },
-        params,
-        return_type,
-        docs: no_docs(alloc),
-        attrs: no_attrs(alloc),
     })
 }
 
-/// A method of the item of that name.
-#[tactic(auto, unfolding(crate::specs::Reading::method_of))]
-fn method(alloc: Global, item: &str, value: &Value) -> Result<Method, ReadFault>
-    ensures { Gives result (method_of item.now (view value.now)) }
-{
-    only(
-        value,
-        &[
-            Key::Name,
-            Key::SelfType,
-            Key::Receiver,
-            Key::Lifetimes,
-            Key::Params,
-            Key::Ret,
-        ],
-    )?;
-    let name = text_under(value, Key::Name)?;
-    let self_type = path_to(alloc, item, needed(value, Key::SelfType)?)?;
-    let self_param = self_param(alloc, item, under(value, Key::Receiver))?;
-    let signature = read_signature(alloc, value)?;
-    Ok(method_by(alloc, name, self_type, self_param, signature)?)
+#[tactic(auto, unfolding(crate::specs::forms::Methods::method, crate::specs::forms::Methods::method_head, crate::specs::forms::Methods::signature, crate::specs::forms::Docs::documented))]
+impl FromForm for Method {
+    ghost use Rattle.bridge_tool.specs.forms.Methods.{method};
+
+    ghost form = { method.read };
+
+    fn from_form(alloc: Global, value: &Value) -> Result<Method, ReadFault> {
+        only(
+            alloc,
+            value,
+            &[
+                Key::Name,
+                Key::AbiName,
+                Key::SelfType,
+                Key::Itself,
+                Key::Lifetimes,
+                Key::Params,
+                Key::Ret,
+                Key::Docs,
+                Key::Attrs,
+            ],
+        )?;
+        let head = method_head(alloc, value)?;
+        let signature = signed(alloc, value)?;
+        let (docs, attrs) = documented(alloc, value)?;
+        Ok(Method {
+            name: head.name,
+            abi_name: head.abi_name,
+            self_type: head.self_type,
+            self_param: head.self_param,
+            lifetime_env: LifetimeEnv {
+                nodes: signature.nodes,
+            },
+            params: signature.params,
+            return_type: signature.returned,
+            docs,
+            attrs,
+        })
+    }
 }
 
-/// The methods of the item of that name.
-pub fn methods(alloc: Global, item: &str, found: Option<&Value>) -> Result<Items<Method>, ReadFault>
-    ensures { Gives result (list_of (method_of item.now)
-        (option_map (λ v. view v.now) found.entry)) }
-{
-    let mut methods = Vec::new(alloc);
-    for entry in entries(found)? {
-        methods.push(method(alloc, item, entry)?)?;
+#[tactic(auto, unfolding(crate::specs::forms::Methods::trait_receiver))]
+impl FromForm for TraitSelfParam {
+    ghost use Rattle.bridge_tool.specs.forms.Methods.{trait_receiver};
+
+    ghost form = { trait_receiver.read };
+
+    fn from_form(alloc: Global, value: &Value) -> Result<TraitSelfParam, ReadFault> {
+        only(alloc, value, &[Key::Reference, Key::Path])?;
+        Ok(TraitSelfParam {
+            reference: optional(alloc, value, Key::Reference)?,
+            path_trait: needed(alloc, value, Key::Path)?,
+        })
     }
-    Ok(Items::from_vec(methods))
+}
+
+/// What stands between the name of a trait's method and its documentation.
+#[derive(Drop)]
+pub struct TraitSignature {
+    /// The declared lifetimes.
+    pub nodes: Items<LifetimeNode>,
+    /// The receiver, if there is one.
+    pub self_param: Option<TraitSelfParam>,
+    /// The parameters.
+    pub params: Items<Param>,
+    /// The type of the return, if one is written.
+    pub returned: Option<TypeName>,
+}
+
+/// What stands between the name of a trait's method and its documentation.
+#[tactic(auto, unfolding(crate::specs::forms::Methods::trait_signature))]
+fn trait_signed(alloc: Global, value: &Value) -> Result<TraitSignature, ReadFault>
+    ensures { Gives result (read_alone trait_signature (view value.now)) }
+{
+    Ok(TraitSignature {
+        nodes: listed(alloc, value, Key::Lifetimes)?,
+        self_param: optional(alloc, value, Key::Itself)?,
+        params: listed(alloc, value, Key::Params)?,
+        returned: optional(alloc, value, Key::Ret)?,
+    })
+}
+
+#[tactic(auto, unfolding(crate::specs::forms::Methods::trait_method, crate::specs::forms::Methods::trait_signature, crate::specs::forms::Docs::documented))]
+impl FromForm for TraitMethod {
+    ghost use Rattle.bridge_tool.specs.forms.Methods.{trait_method};
+
+    ghost form = { trait_method.read };
+
+    fn from_form(alloc: Global, value: &Value) -> Result<TraitMethod, ReadFault> {
+        only(
+            alloc,
+            value,
+            &[
+                Key::Name,
+                Key::Lifetimes,
+                Key::Itself,
+                Key::Params,
+                Key::Ret,
+                Key::Docs,
+                Key::Attrs,
+            ],
+        )?;
+        let name = needed(alloc, value, Key::Name)?;
+        let signature = trait_signed(alloc, value)?;
+        let (docs, attrs) = documented(alloc, value)?;
+        Ok(TraitMethod {
+            name,
+            lifetimes: LifetimeEnv {
+                nodes: signature.nodes,
+            },
+            self_param: signature.self_param,
+            params: signature.params,
+            output_type: signature.returned,
+            docs,
+            attrs,
+        })
+    }
 }

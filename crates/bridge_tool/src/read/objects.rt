@@ -1,17 +1,21 @@
 //! Objects and lists of the form, whatever they spell.
 
-ghost use Rattle.std.specs.Prelude.{◌≡◌, option_map};
-ghost use Rattle.serde_json.specs.Find.{as_str};
+ghost use Rattle.std.specs.Prelude.{◌≡◌, [], ◌∷◌, option_map, Err, Result};
 ghost use Rattle.serde_json.specs.View.{view, items_view, members_view};
-ghost use Rattle.bridge_tool.specs.Keys.{under, text_under, has_only, is_one_of, all_of};
-ghost use Rattle.bridge_tool.specs.Reading.{Gives, GivesBy, kept, entries_of, sole_of};
+ghost use Rattle.bridge_tool.specs.declared.read.fault.Fault.{Fault as Wrong};
+ghost use Rattle.bridge_tool.specs.declared.read.pointer.Step.TheVariants as step;
+ghost use Rattle.bridge_tool.specs.Form.{live, members_in, object_of, sole};
+ghost use Rattle.bridge_tool.specs.Reading.{Gives, GivesBy, here, inside, under, only, is_one_of, known, at_key, Stops};
 
-use crate::keys::Key;
-use crate::read::fault::ReadFault;
+use crate::read::fault::{Fault, InputKind, ReadFault};
+use crate::read::keys::Key;
+use crate::read::pointer::Step;
+use bridge_ast::text::Text;
 use serde_json::{Map, Value};
+use std::alloc::Global;
 
 /// What stands under a key of an object; none where the key is absent or null.
-#[tactic(auto, unfolding(crate::specs::Keys::under))]
+#[tactic(auto, unfolding(crate::specs::Reading::under))]
 pub fn under(value: &Value, key: Key) -> Option<&Value>
     ensures { option_map (λ v. view v.now) result ≡ under key (view value.now) }
 {
@@ -21,72 +25,43 @@ pub fn under(value: &Value, key: Key) -> Option<&Value>
     }
 }
 
-/// What stands under a key that is needed.
-pub fn needed(value: &Value, key: Key) -> Result<&Value, ReadFault>
-    ensures { GivesBy (λ v. view v.now) result (under key (view value.now)) }
+/// What was read of the value under a key of that name, or its fault as one of the object.
+pub fn in_member_named<T: Drop>(
+    alloc: Global,
+    name: &str,
+    read: Result<T, ReadFault>,
+) -> Result<T, ReadFault>
+    ensures { (was : Result T Wrong) → Gives read was → Gives result (inside (step.Member name.now) was) }
 {
-    match under(value, key) {
-        Some(found) => Ok(found),
-        None => Err(ReadFault::FormNotBuilt),
+    match read {
+        Ok(value) => Ok(value),
+        Err(ReadFault::Bad(fault)) => {
+            let step = Step::Member(Text::new(alloc, name)?);
+            Err(ReadFault::Bad(fault.within(step)?))
+        }
+        Err(ReadFault::NoMemory) => Err(ReadFault::NoMemory),
     }
 }
 
-/// The text that stands under a key that is needed.
-#[tactic(auto, unfolding(crate::specs::Keys::text_under))]
-pub fn text_under(value: &Value, key: Key) -> Result<&str, ReadFault>
-    ensures { GivesBy (λ s. s.now) result (text_under key (view value.now)) }
+/// What was read of the value under a key, or its fault as one of the object.
+pub fn in_member<T: Drop>(
+    alloc: Global,
+    key: Key,
+    read: Result<T, ReadFault>,
+) -> Result<T, ReadFault>
+    ensures { (was : Result T Wrong) → Gives read was → Gives result (inside (at_key key) was) }
 {
-    let found = needed(value, key)?;
-    match found.as_str() {
-        Some(text) => Ok(text),
-        None => Err(ReadFault::FormNotBuilt),
-    }
+    in_member_named(alloc, key.text(), read)
 }
 
-/// The entries of a list, and none where nothing stands.
-#[tactic(auto, unfolding(crate::specs::Reading::entries_of))]
-pub fn entries(found: Option<&Value>) -> Result<&[Value], ReadFault>
-    ensures { GivesBy (λ vs. items_view vs.now) result (entries_of (option_map (λ v. view v.now) found.entry)) }
+/// What was read of an entry of a list, or its fault as one of the list.
+pub fn in_entry<T: Drop>(number: usize, read: Result<T, ReadFault>) -> Result<T, ReadFault>
+    ensures { (was : Result T Wrong) → Gives read was → Gives result (inside (step.Index number) was) }
 {
-    let Some(value) = found else {
-        return Ok(&[]);
-    };
-    match value.as_array() {
-        Some(list) => Ok(list.as_slice()),
-        None => Err(ReadFault::FormNotBuilt),
-    }
-}
-
-/// The entry of a list with one.
-#[tactic(auto, unfolding(crate::specs::Reading::entries_of, crate::specs::Reading::sole_of))]
-pub fn sole(value: &Value) -> Result<&Value, ReadFault>
-    ensures { GivesBy (λ v. view v.now) result (sole_of (view value.now)) }
-{
-    match entries(Some(value))? {
-        [] => Err(ReadFault::FormNotBuilt),
-        [one] => Ok(one),
-        [_, _, ..] => Err(ReadFault::FormNotBuilt),
-    }
-}
-
-/// The text that a value is.
-pub fn text(value: &Value) -> Result<&str, ReadFault>
-    ensures { GivesBy (λ s. s.now) result (as_str (view value.now)) }
-{
-    match value.as_str() {
-        Some(text) => Ok(text),
-        None => Err(ReadFault::FormNotBuilt),
-    }
-}
-
-/// Goes on where a test holds.
-pub fn kept(holds: bool) -> Result<(), ReadFault>
-    ensures { Gives result (kept holds) }
-{
-    if holds {
-        Ok(())
-    } else {
-        Err(ReadFault::FormNotBuilt)
+    match read {
+        Ok(value) => Ok(value),
+        Err(ReadFault::Bad(fault)) => Err(ReadFault::Bad(fault.within(Step::Index(number))?)),
+        Err(ReadFault::NoMemory) => Err(ReadFault::NoMemory),
     }
 }
 
@@ -101,30 +76,69 @@ fn is_one_of(keys: &[Key], text: &str) -> bool
     false
 }
 
-fn are_all_of(keys: &[Key], members: &Map<String, Value>) -> bool
-    ensures { result ≡ all_of keys.now (members_view members.now.entries) }
+fn known(alloc: Global, keys: &[Key], members: &Map<String, Value>) -> Result<(), ReadFault>
+    ensures { Gives result (known keys.now (members_view members.now.entries)) }
 {
     for (name, _) in members {
         if !is_one_of(keys, name.as_str()) {
-            return false;
+            return Err(ReadFault::Bad(Fault::unknown_key(alloc, name.as_str())?));
         }
     }
-    true
+    Ok(())
 }
 
-#[tactic(auto, unfolding(crate::specs::Keys::has_only))]
-fn has_only(value: &Value, keys: &[Key]) -> bool
-    ensures { result ≡ has_only keys.now (view value.now) }
+/// The one key of these under which something stands, with what stands there.
+pub fn sole<'v>(
+    alloc: Global,
+    value: &'v Value,
+    keys: &[Key],
+) -> Result<(Key, &'v Value), ReadFault>
+    ensures { GivesBy (λ one. (one.0, view one.1.now)) result (sole (live keys.now (view value.now))) }
+{
+    let mut found = None;
+    for key in keys {
+        if let Some(inner) = under(value, *key) {
+            if found.is_some() {
+                return Err(ReadFault::Bad(Fault::here(alloc, InputKind::WrongForm)));
+            }
+            found = Some((*key, inner));
+        }
+    }
+    match found {
+        Some(one) => Ok(one),
+        None => Err(ReadFault::Bad(Fault::here(alloc, InputKind::WrongForm))),
+    }
+}
+
+/// The members of an object.
+#[tactic(auto, unfolding(crate::specs::Form::members_in))]
+pub fn members(alloc: Global, value: &Value) -> Result<&Map<String, Value>, ReadFault>
+    ensures { GivesBy (λ ms. members_view ms.now.entries) result (members_in (view value.now)) }
 {
     match value.as_object() {
-        Some(members) => are_all_of(keys, members),
-        None => false,
+        Some(members) => Ok(members),
+        None => Err(ReadFault::Bad(Fault::here(alloc, InputKind::WrongForm))),
     }
 }
 
 /// Tests that the value is an object in which no other keys stand.
-pub fn only(value: &Value, keys: &[Key]) -> Result<(), ReadFault>
-    ensures { Gives result (kept (has_only keys.now (view value.now))) }
+#[tactic(auto, unfolding(crate::specs::Reading::only))]
+pub fn only(alloc: Global, value: &Value, keys: &[Key]) -> Result<(), ReadFault>
+    ensures { Gives result (only keys.now (view value.now)) }
 {
-    kept(has_only(value, keys))
+    match value.as_object() {
+        Some(members) => known(alloc, keys, members),
+        None => Err(ReadFault::Bad(Fault::here(alloc, InputKind::WrongForm))),
+    }
+}
+
+/// Tests that the value is an object.
+#[tactic(auto, unfolding(crate::specs::Form::object_of))]
+pub fn object(alloc: Global, value: &Value) -> Result<(), ReadFault>
+    ensures { Gives result (object_of (view value.now)) }
+{
+    match value.as_object() {
+        Some(_) => Ok(()),
+        None => Err(ReadFault::Bad(Fault::here(alloc, InputKind::WrongForm))),
+    }
 }

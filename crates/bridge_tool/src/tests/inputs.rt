@@ -11,7 +11,7 @@ pub const NOT_JSON: &str = "input: not JSON\n";
 pub const NOT_BUILT: &str = "input: form not built at \"\"\n";
 
 // Inputs with the status and the text that belong to them.
-pub const INPUTS: [(&str, u8, &str); 25] = [
+pub const INPUTS: [(&str, u8, &str); 38] = [
     (r#"{"root":{}}"#, 0, "ok 0\n"),
     (PICK, 0, PICK_PAGE),
     // No bound from x: y doesn't outlive what is returned. The box names no lifetime.
@@ -28,7 +28,11 @@ pub const INPUTS: [(&str, u8, &str); 25] = [
     ),
     ("", 2, NOT_JSON),
     (r#"{"root":{"#, 2, NOT_JSON),
-    (r#"{"root":{},"colour":1}"#, 2, NOT_BUILT),
+    (
+        r#"{"root":{},"colour":1}"#,
+        2,
+        "input: unknown key at \"/colour\"\n",
+    ),
     // A name that isn't an identifier, an unknown path and an unknown lifetime.
     (
         r#"{"root":{"items":[{"kind":"opaque","name":"match"}]}}"#,
@@ -120,15 +124,72 @@ pub const INPUTS: [(&str, u8, &str); 25] = [
         1,
         "Lowering error in O::f\n  UnresolvedPath: Q names nothing\nLowering error in 1\n  BadIdent: 1 is not a Rust identifier\nLowering error in P::h\n  LifetimeUnknown: lifetime 'b is not declared\nrefused 3\n",
     ),
-    // Two items of one name, and a bound that stands at one of its ends.
+    // Faults between declarations: two items of one name, bounds that stand at one of their ends, two modules of one name.
     (
         r#"{"root":{"items":[{"kind":"opaque","name":"P"},{"kind":"opaque","name":"P"}]}}"#,
         2,
-        NOT_BUILT,
+        "input: duplicate item at \"/root/items/1\"\n",
     ),
     (
         r#"{"root":{"items":[{"kind":"opaque","name":"O","methods":[{"name":"f","self_type":{"segments":["O"]},"lifetimes":[{"name":"a","longer":[1]},{"name":"b"}]}]}]}}"#,
         2,
+        "input: bound one-sided at \"/root/items/0/methods/0/lifetimes/0\"\n",
+    ),
+    (
+        r#"{"root":{"items":[{"kind":"opaque","name":"O","lifetimes":[{"name":"a","longer":[0]}]}]}}"#,
+        2,
+        "input: bound one-sided at \"/root/items/0/lifetimes/0\"\n",
+    ),
+    (
+        r#"{"root":{"modules":[{"name":"m"},{"name":"m"}]}}"#,
+        2,
+        "input: duplicate module at \"/root/modules/1\"\n",
+    ),
+    // Faults of the form, and how a key is written in a pointer.
+    ("[]", 2, "input: wrong form at \"\"\n"),
+    ("{}", 2, "input: missing key at \"\"\n"),
+    (
+        r#"{"root":{"a/b~c":null}}"#,
+        2,
+        "input: unknown key at \"/root/a~1b~0c\"\n",
+    ),
+    // What isn't checked so far comes after all faults. Settings make no difference.
+    (
+        r#"{"root":{"items":[{"kind":"struct","name":"S"}]}}"#,
+        2,
         NOT_BUILT,
+    ),
+    (r#"{"root":{"attrs":{"deprecated":""}}}"#, 2, NOT_BUILT),
+    (
+        r#"{"root":{"items":[{"kind":"struct","name":"P"},{"kind":"opaque","name":"P"}]}}"#,
+        2,
+        "input: duplicate item at \"/root/items/1\"\n",
+    ),
+    (
+        r#"{"root":{"items":[{"kind":"opaque","name":"O","methods":[{"name":"f","self_type":{"segments":["O"]},"self":{"path":{"segments":["O"]}}}]}]}}"#,
+        2,
+        NOT_BUILT,
+    ),
+    (
+        r#"{"root":{},"backend":{"name":"js","supports":["option"]},"config":{"unsafe_references_in_callbacks":true},"docs":{"default":"https://docs.example/"}}"#,
+        0,
+        "ok 0\n",
+    ),
+    // Two aliases that name each other.
+    (
+        r#"{"root":{"aliases":[{"name":"a","target":["b"]},{"name":"b","target":["a"]}],"items":[{"kind":"opaque","name":"O","methods":[{"name":"f","self_type":{"segments":["O"]},"lifetimes":[{"name":"x"}],"params":[{"name":"p","ty":{"ref":{"lifetime":"x","to":{"named":{"segments":["a"]}}}}}]}]}]}}"#,
+        1,
+        "Lowering error in O::f\n  UnresolvedPath: a names nothing\nrefused 1\n",
+    ),
+    // A path is read in the module in which it is written.
+    (
+        r#"{"root":{"modules":[{"name":"m","items":[{"kind":"opaque","name":"P"}],"modules":[{"name":"n","items":[{"kind":"opaque","name":"Q","methods":[{"name":"f","self_type":{"segments":["Q"]},"ret":{"box":{"named":{"segments":["super","P"]}}}},{"name":"g","self_type":{"segments":["Q"]},"ret":{"box":{"named":{"segments":["P"]}}}}]}]}]}]}}"#,
+        1,
+        "Lowering error in m::n::Q::g\n  UnresolvedPath: P names nothing\nrefused 1\n",
+    ),
+    (
+        r#"{"root":{"modules":[{"name":"m","items":[{"kind":"opaque","name":"P"}],"modules":[{"name":"n","items":[{"kind":"opaque","name":"Q","methods":[{"name":"f","self_type":{"segments":["Q"]},"lifetimes":[{"name":"a"}],"params":[{"name":"p","ty":{"ref":{"lifetime":"a","to":{"named":{"segments":["super","P"]}}}}}],"ret":{"ref":{"lifetime":"a","to":{"named":{"segments":["crate","m","P"]}}}}}]}]}]}]}}"#,
+        0,
+        "callable m::n::Q::f\n  lifetime 0 a: p\n  edges: opaque p\nok 1\n",
     ),
 ];

@@ -1,17 +1,22 @@
-use crate::read::fault::ReadFault;
-use crate::read::read_declarations;
+//! What is read of an input, part by part.
+
+use super::inputs::PICK;
+use crate::read::input::{Input, read_input};
 use bridge_ast::modules::Item;
-use std::alloc::{AllocError, Global};
+use bridge_ast::text::Text;
+use std::alloc::Global;
 use std::test::*;
 
-const EXAMPLE: &str =
-    r#"{"root":{"items":[{"kind":"opaque","name":"O","methods":[{"name":"pick","self_type":{"segments":["O"]},"self":{"reference":{"lifetime":"a"},"path":{"segments":["O"]}},"lifetimes":[{"name":"a","longer":[1]},{"name":"b","shorter":[0]}],"params":[{"name":"y","ty":{"ref":{"lifetime":"b","to":{"named":{"segments":["O"]}}}}}],"ret":{"ref":{"lifetime":"a","to":{"named":{"segments":["O"]}}}}}]}]}}"#;
+fn read(alloc: Global, text: &str) -> Result<Input, Fail> {
+    Ok(read_input(alloc, text.as_bytes()).ok().ok_or("an input")?)
+}
 
 #[test]
 fn the_example_is_read(rt: HostRuntime) -> Result<(), Fail> {
-    let root = read_declarations(rt.alloc(), EXAMPLE.as_bytes())
-        .ok()
-        .ok_or("the example is in the form")?;
+    let input = read(rt.alloc(), PICK)?;
+    let [root] = input.env.modules() else {
+        return Err("there is one module".into());
+    };
     let [Item::Opaque(opaque)] = root.items.as_slice() else {
         return Err("the root has one opaque".into());
     };
@@ -20,6 +25,7 @@ fn the_example_is_read(rt: HostRuntime) -> Result<(), Fail> {
         return Err("the opaque has one method".into());
     };
     assert_eq!(rt; method.name.as_str(), "pick");
+    assert_eq!(rt; method.abi_name.as_str(), "pick");
     let [param] = method.params.as_slice() else {
         return Err("the method has one parameter".into());
     };
@@ -36,124 +42,55 @@ fn the_example_is_read(rt: HostRuntime) -> Result<(), Fail> {
     Ok(())
 }
 
+const SETTINGS: &str =
+    r#"{"root":{},"backend":{"name":"js","other_names":["ecma"],"supports":["option","traits"],"pairs":[{"name":"abi","value":"wasm"}],"features":["f"],"unstable":["u"]},"config":{"unsafe_references_in_callbacks":true},"docs":{"default":"https://docs.example/","bases":{"std":"http://std.example/","none":null}}}"#;
+
 #[test]
-fn a_root_without_items(rt: HostRuntime) -> Result<(), Fail> {
-    for text in [
-        r#"{"root":{}}"#,
-        r#"{"root":{"items":null}}"#,
-        r#"{"root":{"items":[]}}"#,
-    ] {
-        let root = read_declarations(rt.alloc(), text.as_bytes())
-            .ok()
-            .ok_or("a root")?;
-        assert!(rt; root.items.is_empty(), "{text}");
-    }
+fn settings_are_read(rt: HostRuntime) -> Result<(), Fail> {
+    let input = read(rt.alloc(), SETTINGS)?;
+    let backend = &input.validator;
+    assert_eq!(rt; backend.backend_name.as_str(), "js");
+    assert!(rt; backend.support.option && backend.support.traits && !backend.support.callbacks);
+    let [(name, value)] = backend.name_values.as_slice() else {
+        return Err("there is one pair".into());
+    };
+    assert_eq!(rt; name.as_str(), "abi");
+    assert_eq!(rt; value.as_str(), "wasm");
+    assert_eq!(rt; backend.other_backend_names.as_slice().len(), 1);
+    assert!(rt; input.config.unsafe_references_in_callbacks);
+    assert_eq!(rt; input.urls.default_url(), Some("https://docs.example/"));
+    let known = Text::new(rt.alloc(), "std")?;
+    assert_eq!(rt; input.urls.base_url(&known), Some("http://std.example/"));
+    let absent = Text::new(rt.alloc(), "none")?;
+    assert!(rt; input.urls.base_url(&absent).is_none());
     Ok(())
 }
 
-fn answer(alloc: Global, text: &[u8]) -> Option<ReadFault> {
-    read_declarations(alloc, text).err()
-}
-
-/// JSON of another form.
-const OTHER_FORMS: [&str; 14] = [
-    "{}",
-    "[]",
-    "null",
-    r#"{"root":null}"#,
-    r#"{"root":{},"colour":1}"#,
-    r#"{"root":{},"colour":null}"#,
-    r#"{"root":{"items":{}}}"#,
-    r#"{"root":{"items":[{"kind":"struct","name":"O"}]}}"#,
-    r#"{"root":{"items":[{"name":"O"}]}}"#,
-    r#"{"root":{"items":[{"kind":"opaque"}]}}"#,
-    r#"{"root":{"items":[{"kind":"opaque","name":null}]}}"#,
-    r#"{"root":{"items":[{"kind":"opaque","name":7}]}}"#,
-    r#"{"root":{"items":[{"kind":"opaque","name":"O","methods":[{"name":"m"}]}]}}"#,
-    r#"{"root":{"items":[{"kind":"opaque","name":"O","methods":[{"name":"m","self_type":{"segments":["P"]}}]}]}}"#,
-];
-
-/// Members of a method of `O` that are in the form.
-const MEMBERS: [&str; 3] = [
-    r#""ret":null"#,
-    r#""ret":{"box":{"named":{"segments":["O"]}}}"#,
-    r#""lifetimes":[{"name":"a","longer":[0,18446744073709551615]}]"#,
-];
-
-/// Members of a method of `O` that are not.
-const OTHER_MEMBERS: [&str; 11] = [
-    r#""ret":{"box":{"named":{"segments":["O"]}},"ref":{"lifetime":"a","to":{"named":{"segments":["O"]}}}}"#,
-    r#""ret":{"ref":{"lifetime":"static","to":{"named":{"segments":["O"]}}}}"#,
-    r#""ret":{"ref":{"lifetime":"_","to":{"named":{"segments":["O"]}}}}"#,
-    r#""ret":{"ref":{"lifetime":"a","to":{"named":{"segments":["crate"]}}}}"#,
-    r#""ret":{"ref":{"lifetime":"a","to":{"named":{"segments":["self"]}}}}"#,
-    r#""ret":{"ref":{"lifetime":"a","to":{"named":{"segments":["super"]}}}}"#,
-    r#""ret":{"ref":{"lifetime":"a","to":{"named":{"segments":["O","O"]}}}}"#,
-    r#""self":{"path":{"segments":["O"]}}"#,
-    r#""lifetimes":[{"name":"a","longer":[1.5]}]"#,
-    r#""lifetimes":[{"name":"a","longer":[-1]}]"#,
-    r#""lifetimes":[{"name":1}]"#,
-];
-
-/// A text with a method of `O` that has these members beside its name and type.
-fn with_method(alloc: Global, members: &str) -> Result<String, AllocError> {
-    let mut text = String::from_str(
-        alloc,
-        r#"{"root":{"items":[{"kind":"opaque","name":"O","methods":[{"name":"m","self_type":{"segments":["O"]},"#,
-    )?;
-    text.push_str(members)?;
-    text.push_str("}]}]}}")?;
-    Ok(text)
-}
-
 #[test]
-fn other_forms(rt: HostRuntime) -> Result<(), Fail> {
-    for text in OTHER_FORMS {
-        assert!(rt;
-            matches!(
-                answer(rt.alloc(), text.as_bytes()),
-                Some(ReadFault::FormNotBuilt)
-            ),
-            "{text}"
-        );
-    }
-    for members in MEMBERS {
-        let text = with_method(rt.alloc(), members)?;
-        assert!(rt; answer(rt.alloc(), text.as_bytes()).is_none(), "{members}");
-    }
-    for members in OTHER_MEMBERS {
-        let text = with_method(rt.alloc(), members)?;
-        assert!(rt;
-            matches!(
-                answer(rt.alloc(), text.as_bytes()),
-                Some(ReadFault::FormNotBuilt)
-            ),
-            "{members}"
-        );
-    }
+fn absent_settings_allow_nothing(rt: HostRuntime) -> Result<(), Fail> {
+    let input = read(rt.alloc(), r#"{"root":{},"backend":null}"#)?;
+    assert_eq!(rt; input.validator.backend_name.as_str(), "");
+    assert!(rt; !input.validator.support.option);
+    assert!(rt; input.validator.name_values.as_slice().is_empty());
+    assert!(rt; !input.config.unsafe_references_in_callbacks);
+    assert!(rt; input.urls.default_url().is_none());
     Ok(())
 }
 
-fn nested(alloc: Global, depth: u32) -> Result<Vec<u8>, AllocError> {
-    let mut text = Vec::new(alloc);
-    for _ in 0..depth {
-        text.push(b'[')?;
-    }
-    for _ in 0..depth {
-        text.push(b']')?;
-    }
-    Ok(text)
-}
+/// Modules that nest, each listed before those inside it.
+const NESTED: &str =
+    r#"{"root":{"modules":[{"name":"m","modules":[{"name":"n"},{"name":"o"}]},{"name":"p"}]}}"#;
 
 #[test]
-fn what_is_no_json(rt: HostRuntime) -> Result<(), Fail> {
-    let texts: [&[u8]; 3] = [b"", b"{\"root\":{", b"{\"root\":{}\xff}"];
-    for text in texts {
-        assert!(rt; matches!(answer(rt.alloc(), text), Some(ReadFault::NotJson)));
+fn modules_are_listed_before_those_inside_them(rt: HostRuntime) -> Result<(), Fail> {
+    let input = read(rt.alloc(), NESTED)?;
+    let paths: [&[&str]; 5] = [&[], &["m"], &["m", "n"], &["m", "o"], &["p"]];
+    assert_eq!(rt; input.env.modules().len(), paths.len());
+    for (module, path) in input.env.modules().iter().zip(paths.iter()) {
+        assert_eq!(rt; module.path.as_slice().len(), path.len());
+        for (segment, name) in module.path.as_slice().iter().zip(path.iter()) {
+            assert_eq!(rt; segment.as_str(), *name);
+        }
     }
-    let text = nested(rt.alloc(), 127)?;
-    assert!(rt; matches!(answer(rt.alloc(), &text), Some(ReadFault::FormNotBuilt)));
-    let text = nested(rt.alloc(), 128)?;
-    assert!(rt; matches!(answer(rt.alloc(), &text), Some(ReadFault::NotJson)));
     Ok(())
 }

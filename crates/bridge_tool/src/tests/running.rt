@@ -14,8 +14,8 @@ fn words_of(alloc: Global, texts: &[&str]) -> Result<Vec<String>, AllocError> {
     Ok(words)
 }
 
-// Whether the run on the input ends with the status and prints the text.
-fn runs_to(
+/// Whether the run on the input ends with the status and prints the text.
+pub fn runs_to(
     alloc: Global,
     texts: &[&str],
     input: &str,

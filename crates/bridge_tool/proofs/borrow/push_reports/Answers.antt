@@ -3,7 +3,7 @@ use Rattle.bridge_ast.specs.declared.methods.Method.{Method}
 use Rattle.bridge_ast.specs.Environments.{IsSoundEnvironment}
 use Rattle.bridge_ast.specs.Names.{item_name}
 use Rattle.bridge_tool.specs.Signature.{HasNames}
-use Rattle.bridge_tool.specs.Sound.{methods_of}
+use Rattle.bridge_tool.specs.Methods.{methods_of}
 use Rattle.bridge_tool.proofs.ChosenLemmas.{all_at}
 use Rattle.bridge_tool.proofs.ReportsLemmas.{one_more_method, all_methods}
 use Rattle.bridge_tool.proofs.borrow.push_reports.Goals as goal
@@ -17,12 +17,12 @@ callable_report-requires c = record {
 }
 
 pub loop-method-preserved : goal.loop-method-preserved
-loop-method-preserved c = λ before paired.
-    rw c.in_ok-push.ensures.items (one_more_method c.args.item.now c.methods-method-items.result.now c.loop-method.method-index c.method-item.result before c.loop-method.reports.items
-    c.in_ok-callable_report.field-0 c.loop-method-test.true c.method-item.is (c.loop-method.invariant before paired)
-    (c.in_ok-callable_report.ensures (record { item = item_name c.args.item.now; method = c.method-item.result }) refl))
+loop-method-preserved c = λ path before paired.
+    rw c.in_ok-push.ensures.items (one_more_method path c.args.item.now c.methods-method-items.result.now c.loop-method.method-index c.method-item.result before c.loop-method.reports.items
+    c.in_ok-callable_report.field-0 c.loop-method-test.true c.method-item.is (c.loop-method.invariant path before paired)
+    (c.in_ok-callable_report.ensures (record { path = path; item = item_name c.args.item.now; method = c.method-item.result }) refl))
 
 pub returns : goal.returns
-returns c = λ before paired.
-    all_methods c.args.item.now c.methods-method-items.result.now c.loop-method.method-index before c.loop-method.reports.items c.methods-method-items.ensures c.loop-method-test.false
-    (c.loop-method.invariant before paired)
+returns c = λ path before paired.
+    all_methods path c.args.item.now c.methods-method-items.result.now c.loop-method.method-index before c.loop-method.reports.items c.methods-method-items.ensures c.loop-method-test.false
+    (c.loop-method.invariant path before paired)

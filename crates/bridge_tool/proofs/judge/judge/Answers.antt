@@ -1,9 +1,10 @@
-use Rattle.std.proofs.lemmas.Result.{IfOk-weaker}
-use Rattle.bridge_tool.specs.Judging.{Judges, JudgesDeclarations}
-use Rattle.bridge_tool.proofs.JudgeLemmas.{judged}
+use Rattle.bridge_tool.proofs.JudgeLemmas.{judged, judged_faulty}
 use Rattle.bridge_tool.proofs.judge.judge.Goals as goal
 
 pub returns-in-Ok : goal.returns-in-Ok
-returns-in-Ok c =
-    IfOk-weaker c.judge_declarations.result (JudgesDeclarations c.in-Ok.root) (Judges c.args.bytes.now)
-    (judged c.args.bytes.now c.in-Ok.root (λ other. c.in-Ok.ensures.one c.in-Ok.root other) c.in-Ok.ensures.ok) c.judge_declarations.ensures
+returns-in-Ok c = judged c.args.bytes.now c.in-Ok.input c.in-Ok.ensures.spelled c.judge_environment.result c.judge_environment.ensures
+
+pub returns-in-Err-NotDeclarations : goal.returns-in-Err-NotDeclarations
+returns-in-Err-NotDeclarations c =
+    judged_faulty c.args.bytes.now c.in-Err-NotDeclarations.field-0 c.in-Err-NotDeclarations.kind c.in-Err-NotDeclarations.pointer c.in-Err-NotDeclarations.field-0-is
+    c.in-Err-NotDeclarations.ensures.only c.in-Err-NotDeclarations.ensures.told

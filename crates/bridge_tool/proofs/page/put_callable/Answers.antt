@@ -6,5 +6,7 @@ use Rattle.bridge_tool.proofs.page.put_callable.Goals as goal
 
 pub returns : goal.returns
 returns g c =
-    c.put_text.ensures ⨟ (prints_same c.as_str.ensures c.put_text-2.ensures ⨟ c.put_text-3.ensures ⨟ prints_same c.as_str-2.ensures c.put_text-4.ensures) ⨟ c.put_text-5.ensures
+    c.put_text.ensures
+    ⨟ (c.put_prefix.ensures ⨟ prints_same c.as_str.ensures c.put_text-2.ensures ⨟ c.put_text-3.ensures ⨟ prints_same c.as_str-2.ensures c.put_text-4.ensures)
+    ⨟ c.put_text-5.ensures
     ⨟ prints_same (ap (flat_map (returned_text c.args.method.now)) c.as_slice.ensures) c.put_all_returned.ensures

@@ -6,4 +6,4 @@ use Rattle.bridge_tool.proofs.page.put_callable_with.Goals as goal
 
 pub returns-in-None : goal.returns-in-None
 returns-in-None g c =
-    prints_same (ap (λ report. text_with (record { item = c.args.item.now; method = c.args.method.now }) (option_copied report)) (sym c.in-None.is)) prints_nothing
+    prints_same (ap (λ report. text_with (record { path = c.args.path.now; item = c.args.item.now; method = c.args.method.now }) (option_copied report)) (sym c.in-None.is)) prints_nothing

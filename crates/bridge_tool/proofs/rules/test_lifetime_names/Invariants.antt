@@ -1,9 +1,9 @@
 use Rattle.std.proofs.Common.{List, [], ◌∷◌, take}
 use Rattle.std.specs.List.{flat_map}
-use Rattle.bridge_ast.specs.declared.modules.Item.{Item}
+use Rattle.bridge_ast.specs.declared.modules.Module.{Module}
 use Rattle.bridge_tool.specs.Checks.{name}
 use Rattle.bridge_tool.specs.Reports.{tested_at, Reports}
 use Rattle.bridge_tool.proofs.rules.test_lifetime_names.Given as goal
 
 abbrev pub invariant-loop-node : goal.invariant-loop-node
-invariant-loop-node l = (all : List Item) → Reports all (flat_map (λ node. tested_at l.at (name node.name) ∷ []) (take l.node-index l.nodes)) l.fn.reports.items l.reports.items
+invariant-loop-node l = (all : List Module) → Reports all (flat_map (λ node. tested_at l.at (name node.name) ∷ []) (take l.node-index l.nodes)) l.fn.reports.items l.reports.items

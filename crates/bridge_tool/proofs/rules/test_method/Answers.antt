@@ -5,8 +5,14 @@ use Rattle.bridge_tool.proofs.ReportLemmas.{method_tested}
 use Rattle.bridge_tool.proofs.rules.test_method.Goals as goal
 
 pub returns : goal.returns
-returns c = λ all indexed.
+returns c =
+    let all = c.args.env.now in
     on_ok_weaker c.test_lifetimes.result
-    (method_tested (TestFails all) c.args.item.now c.args.method.now (λ check. record { item = c.args.item.now; method = Some c.args.method.now.name; check = check }) _ _ _ _ refl
-    (c.in_ok-test_names.ensures all) (c.in_ok-test_paths.ensures all indexed))
+    (method_tested (TestFails all) c.args.item.number c.args.item.path.now c.args.item.item.now c.args.method.now
+    (λ check. record {
+      number = c.args.item.number;
+      place = record { path = c.args.item.path.now; item = c.args.item.item.now; method = Some c.args.method.now.name };
+      check = check;
+    }) _ _ _ _ refl
+    (c.in_ok-test_names.ensures all) c.in_ok-test_paths.ensures)
     (c.test_lifetimes.ensures all (rw c.in-Some.is at c.in_ok-names.ensures).1)

@@ -4,13 +4,17 @@ use Rattle.bridge_tool.proofs.ChosenLemmas.{appends_more, appends_all}
 use Rattle.bridge_tool.proofs.rules.test_methods.Goals as goal
 
 pub loop-method-preserved : goal.loop-method-preserved
-loop-method-preserved c = λ all indexed.
-    appends_more (TestFails all) (tested_in_method c.args.item.now) c.args.methods.now c.loop-method.method-index
-    c.method-item.result _ _ _ c.loop-method-test.true c.method-item.is (c.loop-method.invariant all indexed) (c.in_ok-test_method.ensures all indexed)
+loop-method-preserved c =
+    appends_more (TestFails c.args.env.now) (tested_in_method c.args.item.number c.args.item.path.now c.args.item.item.now) c.args.methods.now c.loop-method.method-index
+    c.method-item.result _ _ _ c.loop-method-test.true c.method-item.is c.loop-method.invariant c.in_ok-test_method.ensures
 
 pub returns : goal.returns
-returns c = λ all indexed.
-    appends_all (TestFails all) (tested_in_method c.args.item.now) c.args.methods.now c.loop-method.method-index _ _ c.loop-method-test.false (c.loop-method.invariant all indexed)
+returns c =
+    appends_all (TestFails c.args.env.now) (tested_in_method c.args.item.number c.args.item.path.now c.args.item.item.now) c.args.methods.now c.loop-method.method-index _ _
+    c.loop-method-test.false c.loop-method.invariant
 
 pub test_method-requires : goal.test_method-requires
-test_method-requires c = rw c.method-item.is (c.requires c.loop-method.method-index c.method-item.result c.loop-method-test.true)
+test_method-requires c = record {
+  within = c.requires.within;
+  sound = rw c.method-item.is (c.requires.sound c.loop-method.method-index c.method-item.result c.loop-method-test.true);
+}

@@ -1,6 +1,6 @@
 use Rattle.std.proofs.Common.{List, map, take}
 use Rattle.std.specs.List.{flat_map}
-use Rattle.bridge_ast.specs.declared.modules.Item.{Item}
+use Rattle.bridge_ast.specs.declared.modules.Module.{Module}
 use Rattle.bridge_ast.specs.declared.types.TypeName.{out-TypeName}
 use Rattle.bridge_ast.specs.Environments.{lifetime_names}
 use Rattle.bridge_tool.specs.Checks.{lifetime, lifetime_name, type_lifetimes}
@@ -9,5 +9,5 @@ use Rattle.bridge_tool.specs.Reports.{tested_at, Reports}
 use Rattle.bridge_tool.proofs.rules.test_param_lifetimes.Given as goal
 
 abbrev pub invariant-loop-param : goal.invariant-loop-param
-invariant-loop-param l = (all : List Item) → Indexes l.names (lifetime_names l.env)
+invariant-loop-param l = (all : List Module) → Indexes l.names (lifetime_names l.env)
     → Reports all (flat_map (λ param. map (λ u. tested_at l.at (lifetime l.env u)) (flat_map lifetime_name (type_lifetimes (out-TypeName param.ty)))) (take l.param-index l.params)) l.fn.reports.items l.reports.items

@@ -6,11 +6,11 @@ use Rattle.bridge_tool.proofs.ChosenLemmas.{appends_more, appends_all}
 use Rattle.bridge_tool.proofs.rules.test_param_paths.Goals as goal
 
 pub loop-param-preserved : goal.loop-param-preserved
-loop-param-preserved c = λ all indexed.
-    appends_more (TestFails all) (λ param. map (λ p. tested_at c.args.at (path p)) (type_paths (out-TypeName param.ty))) c.args.params.now c.loop-param.param-index
-    c.param-item.result _ _ _ c.loop-param-test.true c.param-item.is (c.loop-param.invariant all indexed) (c.in_ok-test_type_path.ensures all indexed)
+loop-param-preserved c =
+    appends_more (TestFails c.args.env.now) (λ param. map (λ p. tested_at c.args.at (path p)) (type_paths (out-TypeName param.ty))) c.args.params.now c.loop-param.param-index
+    c.param-item.result _ _ _ c.loop-param-test.true c.param-item.is c.loop-param.invariant c.in_ok-test_type_path.ensures
 
 pub returns : goal.returns
-returns c = λ all indexed.
-    appends_all (TestFails all) (λ param. map (λ p. tested_at c.args.at (path p)) (type_paths (out-TypeName param.ty))) c.args.params.now c.loop-param.param-index
-    _ _ c.loop-param-test.false (c.loop-param.invariant all indexed)
+returns c =
+    appends_all (TestFails c.args.env.now) (λ param. map (λ p. tested_at c.args.at (path p)) (type_paths (out-TypeName param.ty))) c.args.params.now c.loop-param.param-index
+    _ _ c.loop-param-test.false c.loop-param.invariant

@@ -7,13 +7,16 @@ use Rattle.bridge_tool.proofs.RunLemmas.{told_page}
 use Rattle.bridge_tool.proofs.run.accept.Goals as goal
 
 pub reports_of-requires-clause-names : goal.reports_of-requires-clause-names
-reports_of-requires-clause-names g c = names_pass c.args.root.now c.requires.keep
+reports_of-requires-clause-names g c = names_pass c.args.modules.now c.requires.keep
 
 pub print_page-printed-requires : goal.print_page-printed-requires
-print_page-printed-requires g c = ap length c.deref.ensures.value ∙ pairs_length IsCallableReport (callables c.args.root.now.items) c.in-Ok.reports.items c.in-Ok.ensures
+print_page-printed-requires g c = record {
+  order = c.requires.order;
+  each = ap length c.deref.ensures.value ∙ pairs_length IsCallableReport (callables c.args.modules.now) c.in-Ok.reports.items c.in-Ok.ensures;
+}
 
 pub returns-in-Ok : goal.returns-in-Ok
 returns-in-Ok g c =
     rw c.ended.ensures
-    (told_page g.K.Sink.taken g.K.Sink.faults _ _ c.args.root.now _ c.print_page-printed.result c.print_page-printed.ensures c.requires.keep
-    (c.deref.result.now, subst (λ (reports : List CallableReport). AreReports c.args.root.now.items reports) (sym c.deref.ensures.value) c.in-Ok.ensures, refl))
+    (told_page g.K.Sink.taken g.K.Sink.faults _ _ c.args.modules.now _ c.print_page-printed.result c.print_page-printed.ensures c.requires.keep
+    (c.deref.result.now, subst (λ (reports : List CallableReport). AreReports c.args.modules.now reports) (sym c.deref.ensures.value) c.in-Ok.ensures, refl))

@@ -4,7 +4,7 @@ use Rattle.bridge_tool.proofs.RunLemmas.{told_reports}
 use Rattle.bridge_tool.proofs.run.refuse.Goals as goal
 
 pub returns : goal.returns
-returns g c =
+returns g c = λ modules chosen.
     rw c.ended.ensures
-    (told_reports g.K.Sink.taken g.K.Sink.faults _ _ c.args.root.now _ c.print_lines-printed.result c.print_lines-printed.ensures
-    (refused_by_faults tested_of c.args.root.now c.args.faults.now c.requires.some c.requires.faults))
+    (told_reports g.K.Sink.taken g.K.Sink.faults _ _ modules _ c.print_lines-printed.result c.print_lines-printed.ensures
+    (refused_by_faults tested_of modules c.args.faults.now c.requires chosen))

@@ -17,7 +17,7 @@ returns g c =
     let is = sym c.code.ensures in
     let s = subst (λ (code : ℕ). Says words old new code) is (says words old new end ran) in
     record {
-      headline = λ had root told short spells. subst (λ (code : ℕ). code ≢ 5 → Headline root old new code) is (headline_of words old new had root end ran told short spells);
+      headline = λ had modules told short spells. subst (λ (code : ℕ). code ≢ 5 → Headline modules old new code) is (headline_of words old new had modules end ran told short spells);
       complete = λ had told short. subst (λ (code : ℕ). IsComplete had code) is (complete_of words old new had end ran told short);
       accepted = s.accepted;
       refused = s.refused;

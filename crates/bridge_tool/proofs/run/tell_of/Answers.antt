@@ -3,7 +3,7 @@ use Rattle.bridge_tool.proofs.RefusalLemmas.{kept_without_faults, some_faults}
 use Rattle.bridge_tool.proofs.run.tell_of.Goals as goal
 
 pub accept-requires-clause-keep : goal.accept-requires-clause-keep
-accept-requires-clause-keep g c = kept_without_faults tested_of c.args.root.now c.args.faults.now c.is_empty.result c.is_empty.ensures c.if-is_empty.true c.requires.faults
+accept-requires-clause-keep g c = kept_without_faults tested_of c.args.modules.now c.args.faults.now c.is_empty.result c.is_empty.ensures c.if-is_empty.true c.requires.faults
 
-pub refuse-requires-clause-some : goal.refuse-requires-clause-some
-refuse-requires-clause-some g c = some_faults c.args.faults.now c.is_empty.result c.is_empty.ensures c.if-is_empty.false
+pub refuse-requires : goal.refuse-requires
+refuse-requires g c = some_faults c.args.faults.now c.is_empty.result c.is_empty.ensures c.if-is_empty.false

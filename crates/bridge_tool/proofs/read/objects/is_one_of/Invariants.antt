@@ -1,5 +1,5 @@
 use Rattle.std.proofs.Common.{◌≡◌, take, false}
-use Rattle.bridge_tool.specs.Keys.{is_one_of}
+use Rattle.bridge_tool.specs.Reading.{is_one_of}
 use Rattle.bridge_tool.proofs.read.objects.is_one_of.Given as goal
 
 abbrev pub invariant-loop-key : goal.invariant-loop-key

@@ -1,0 +1,11 @@
+use Rattle.std.proofs.Common.{sym}
+use Rattle.bridge_tool.specs.Methods.{HasSoundItems}
+use Rattle.bridge_tool.specs.Signature.{HasNamedItems}
+use Rattle.bridge_tool.proofs.WalkLemmas.{all_got}
+use Rattle.bridge_tool.proofs.borrow.push_number.Goals as goal
+
+pub push_module-requires-clause-sound : goal.push_module-requires-clause-sound
+push_module-requires-clause-sound c = all_got HasSoundItems c.args.modules.now c.args.number c.in-Some.module.now c.requires.sound (sym c.in-Some.ensures)
+
+pub push_module-requires-clause-names : goal.push_module-requires-clause-names
+push_module-requires-clause-names c = all_got HasNamedItems c.args.modules.now c.args.number c.in-Some.module.now c.requires.names (sym c.in-Some.ensures)

@@ -1,6 +1,0 @@
-use Rattle.bridge_tool.specs.Bounds.{listed}
-use Rattle.bridge_tool.proofs.BoundsLemmas.{nodes_more}
-use Rattle.bridge_tool.proofs.bounds.pairs_of.Goals as goal
-
-pub loop-from-preserved : goal.loop-from-preserved
-loop-from-preserved c = nodes_more (listed c.args.side) c.args.nodes.now c.loop-from.from c.index-nodes-from.result c.loop-from.pairs c.add_listed.new.pairs c.of.result.now c.loop-from-test.true c.index-nodes-from.is c.of.ensures c.loop-from.invariant c.in_ok-add_listed.ensures

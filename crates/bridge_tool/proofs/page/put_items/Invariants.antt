@@ -1,0 +1,12 @@
+use Rattle.std.proofs.Common.{◌≡◌, length, take, drop}
+use Rattle.std.specs.List.{flat_map}
+use Rattle.bridge_tool.specs.Borrows.{callables_of}
+use Rattle.bridge_tool.specs.Page.{callables_text}
+use Rattle.bridge_tool.specs.Printing.{Prints}
+use Rattle.bridge_tool.proofs.page.put_items.Given as goal
+
+abbrev pub invariant-loop-item : goal.invariant-loop-item
+invariant-loop-item g l = record {
+  printed : Prints g.K.Sink.taken g.K.Sink.faults l.fn.sink l.fn.out l.sink l.out (callables_text (flat_map (callables_of l.path) (take l.item-index l.items)) l.reports);
+  left : l.rest ≡ drop (length (flat_map (callables_of l.path) (take l.item-index l.items))) l.reports;
+}

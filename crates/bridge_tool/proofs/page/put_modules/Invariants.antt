@@ -1,0 +1,12 @@
+use Rattle.std.proofs.Common.{◌≡◌, length, take, drop}
+use Rattle.std.specs.List.{flat_map}
+use Rattle.bridge_tool.specs.Borrows.{callables_at}
+use Rattle.bridge_tool.specs.Page.{callables_text}
+use Rattle.bridge_tool.specs.Printing.{Prints}
+use Rattle.bridge_tool.proofs.page.put_modules.Given as goal
+
+abbrev pub invariant-loop-number : goal.invariant-loop-number
+invariant-loop-number g l = record {
+  printed : Prints g.K.Sink.taken g.K.Sink.faults l.fn.sink l.fn.out l.sink l.out (callables_text (flat_map (callables_at l.modules) (take l.number-index l.order)) l.reports);
+  left : l.rest ≡ drop (length (flat_map (callables_at l.modules) (take l.number-index l.order))) l.reports;
+}

@@ -1,0 +1,7 @@
+use Rattle.std.proofs.Common.{take}
+use Rattle.bridge_tool.specs.Page.{prefix_text}
+use Rattle.bridge_tool.specs.Printing.{Prints}
+use Rattle.bridge_tool.proofs.page.put_prefix.Given as goal
+
+abbrev pub invariant-loop-segment : goal.invariant-loop-segment
+invariant-loop-segment g l = Prints g.K.Sink.taken g.K.Sink.faults l.fn.sink l.fn.out l.sink l.out (prefix_text (take l.segment-index l.path))

@@ -1,7 +1,0 @@
-use Rattle.std.proofs.Common.{◌≡◌, take, Some}
-use Rattle.serde_json.specs.View.{items_view}
-use Rattle.bridge_tool.specs.Reading.{each_of, method_of}
-use Rattle.bridge_tool.proofs.read.methods.methods.Given as goal
-
-abbrev pub invariant-loop-entry : goal.invariant-loop-entry
-invariant-loop-entry l = each_of (method_of l.item) (items_view (take l.entry-index l.entry-items)) ≡ Some l.methods.items

@@ -1,0 +1,20 @@
+use Rattle.bridge_tool.specs.Checks.{tested_in_item}
+use Rattle.bridge_tool.specs.Reports.{TestFails}
+use Rattle.bridge_tool.proofs.ChosenLemmas.{appends_more, appends_all}
+use Rattle.bridge_tool.proofs.rules.test_items.Goals as goal
+
+pub loop-item-preserved : goal.loop-item-preserved
+loop-item-preserved c =
+    appends_more (TestFails c.args.env.now) (tested_in_item c.args.number c.args.path.now) c.args.items.now c.loop-item.item-index c.item-item.result _ _ _
+    c.loop-item-test.true c.item-item.is c.loop-item.invariant c.in_ok-test_item.ensures
+
+pub returns : goal.returns
+returns c =
+    appends_all (TestFails c.args.env.now) (tested_in_item c.args.number c.args.path.now) c.args.items.now c.loop-item.item-index _ _ c.loop-item-test.false
+    c.loop-item.invariant
+
+pub test_item-requires : goal.test_item-requires
+test_item-requires c = record {
+  within = c.requires.within;
+  sound = rw c.item-item.is (c.requires.sound c.loop-item.item-index c.item-item.result c.loop-item-test.true);
+}
