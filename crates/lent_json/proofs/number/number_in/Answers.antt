@@ -1,0 +1,17 @@
+use Rattle.std.proofs.Common.{◌≡◌, drop, true, false, sym, ap, ◌∙◌, arith, take_all, length-drop}
+use Rattle.fast_float.specs.Text.{scan}
+use Rattle.serde_json.specs.Read.{number_of, number_from}
+use Rattle.lent_json.proofs.Numbers.{with_minus, without_minus}
+use Rattle.lent_json.proofs.number.number_in.Goals as goal
+
+pub returns-then-is_negative : goal.returns-then-is_negative
+returns-then-is_negative c =
+    let s = c.as_bytes-bytes.result.now in
+    let scanned : c.scan.result ≡ scan (drop 1 s) = c.scan.ensures.parts ∙ ap scan (take_all _ (drop 1 s) (omega (arith, length-drop 1 s))) in
+    c.negative.ensures ∙ ap (number_from true) scanned ∙ sym (with_minus s (sym c.if-is_negative.ensures.minus)) ∙ ap number_of c.as_bytes-bytes.ensures.value
+
+pub returns-else-is_negative : goal.returns-else-is_negative
+returns-else-is_negative c =
+    let s = c.as_bytes-bytes.result.now in
+    c.unsigned.ensures ∙ ap (number_from false) c.scan-else-is_negative.ensures.parts ∙ sym (without_minus s (sym c.if-is_negative.ensures.minus))
+    ∙ ap number_of c.as_bytes-bytes.ensures.value

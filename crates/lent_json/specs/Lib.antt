@@ -1,0 +1,5 @@
+pub mod Read
+pub mod Numbers
+pub mod Lists
+pub mod Objects
+pub mod Fitting
