@@ -13,6 +13,7 @@ pub mod InputLaws
 pub mod JoinedLists
 pub mod JudgeLemmas
 pub mod KeyTests
+pub mod KnownLemmas
 pub mod LinesLemmas
 pub mod ListingLemmas
 pub mod LiveLemmas

@@ -332,8 +332,11 @@ two_entries (item d (item e (item f ds))) = Err (here kind.WrongForm)
 abbrev pub pair_read : {A : Type 0} → (Data → Result A Fault) → Data × Data → Result (A × A) Fault
 pair_read read both = inside (step.Index 0) (read both.0) >>= (λ x. inside (step.Index 1) (read both.1) >>= (λ y. Ok (x, y)))
 
+abbrev pub two_in : {A : Type 0} → (Data → Result A Fault) → Items → Result (A × A) Fault
+two_in read entries = two_entries entries >>= pair_read read
+
 abbrev pub two_of : {A : Type 0} → (Data → Result A Fault) → Data → Result (A × A) Fault
-two_of read d = entries_of d >>= (λ entries. two_entries entries >>= pair_read read)
+two_of read d = entries_of d >>= two_in read
 
 abbrev pub IsTwo : {A : Type 0} → (Data → A → Type 0) → Data → A × A → Type 0
 IsTwo P d pair = IsList P d (pair.0 ∷ pair.1 ∷ [])

@@ -10,6 +10,7 @@ pub mod Index
 pub mod Inputs
 pub mod Judging
 pub mod Keys
+pub mod Known
 pub mod Leaves
 pub mod Lines
 pub mod Methods

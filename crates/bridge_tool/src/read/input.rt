@@ -2,11 +2,12 @@
 
 ghost use Rattle.std.specs.Prelude.{◌≡◌, Err, IfErr, IfOk, length};
 ghost use Rattle.serde_json.specs.Data.{Data};
-ghost use Rattle.serde_json.specs.View.{view};
+ghost use Rattle.lent_json.specs.Read.{data_at};
 ghost use Rattle.bridge_tool.specs.declared.read.input.Input.{Input as Given};
 ghost use Rattle.bridge_tool.specs.declared.read.input.InputFault.TheVariants.{NoMemory as no_memory};
 ghost use Rattle.bridge_tool.specs.Inputs.{GivesEnv, GivesForm, IsJsonOf, IsNoJson, IsReadAs, IsToldOf, SpellsInput, Tells, fault_of, kind_of};
 ghost use Rattle.bridge_tool.specs.Pointers.{module_pointers};
+ghost use Rattle.bridge_tool.specs.Reading.{here};
 ghost use Rattle.bridge_tool.specs.forms.Inputs.{no_backend};
 
 use crate::read::fault::{InputKind, ReadFault};
@@ -21,7 +22,9 @@ use bridge_ast::text::{NoMemory, Text};
 use hir_attrs::validator::BasicAttributeValidator;
 use hir_docs::DocsUrlGenerator;
 use hir_lower::LoweringConfig;
-use serde_json::Value;
+use json::Scratch;
+use lent_json::document::{Document, NotRead};
+use lent_json::value::Json;
 use std::alloc::{AllocError, Global};
 
 /// What an input declares, of which it isn't known whether its modules fit together.
@@ -85,7 +88,7 @@ impl FromForm for Declared {
 
     ghost form = { whole.read };
 
-    fn from_form(alloc: Global, value: &Value) -> Result<Declared, ReadFault> {
+    fn from_form(alloc: Global, value: &Json<'_, '_>) -> Result<Declared, ReadFault> {
         only(
             alloc,
             value,
@@ -110,21 +113,35 @@ fn fault_at(alloc: Global, kind: InputKind, at: Pointer) -> InputFault
     }
 }
 
-/// The JSON value of the bytes.
-fn json_value(alloc: Global, bytes: &[u8]) -> Result<Value, InputFault>
-    ensures ok { IfOk result (λ value. IsJsonOf bytes.now (view value)) }
+/// That the bytes are no JSON text.
+fn not_json(alloc: Global) -> InputFault
+    ensures { Tells result (here InputKind.NotJson) }
+{
+    fault_at(alloc, InputKind::NotJson, Pointer::here(alloc))
+}
+
+/// The JSON text that the bytes are.
+fn document_of<'a>(
+    alloc: Global,
+    bytes: &'a [u8],
+    scratch: &'a mut Scratch,
+) -> Result<Document<'a>, InputFault>
+    ensures ok { IfOk result (λ document. IsJsonOf bytes.now (data_at document)) }
     ensures not_json { IfErr result (λ fault. IsNoJson bytes.now fault) }
 {
-    match Value::from_slice(alloc, bytes) {
-        Ok(value) => Ok(value),
-        Err(error) if error.is_memory() => Err(InputFault::NoMemory),
-        Err(_) => Err(fault_at(alloc, InputKind::NotJson, Pointer::here(alloc))),
+    let Ok(text) = str::from_utf8(bytes) else {
+        return Err(not_json(alloc));
+    };
+    match Document::read(alloc, text, scratch) {
+        Ok(document) => Ok(document),
+        Err(NotRead::NotJson) => Err(not_json(alloc)),
+        Err(NotRead::NoMemory) => Err(InputFault::NoMemory),
     }
 }
 
 /// What the value declares.
-fn declared_in(alloc: Global, value: &Value) -> Result<Declared, InputFault>
-    ensures { GivesForm result (view value.now) }
+fn declared_in(alloc: Global, value: &Json<'_, '_>) -> Result<Declared, InputFault>
+    ensures { GivesForm result (data_at value.now) }
 {
     match Declared::from_form(alloc, value) {
         Ok(declared) => Ok(declared),
@@ -148,8 +165,13 @@ fn kind_of(kind: EnvFaultKind) -> InputKind
 }
 
 /// A fault between the declarations of a value.
-fn fault_between(alloc: Global, value: &Value, kind: EnvFaultKind, at: EnvPlace) -> InputFault
-    ensures { Tells result (fault_of (view value.now) kind at) }
+fn fault_between(
+    alloc: Global,
+    value: &Json<'_, '_>,
+    kind: EnvFaultKind,
+    at: EnvPlace,
+) -> InputFault
+    ensures { Tells result (fault_of (data_at value.now) kind at) }
 {
     match place_pointer(alloc, value, at) {
         Ok(pointer) => fault_at(alloc, kind_of(kind), pointer),
@@ -158,8 +180,8 @@ fn fault_between(alloc: Global, value: &Value, kind: EnvFaultKind, at: EnvPlace)
 }
 
 /// The environment of the modules that a value declares.
-fn env_of(alloc: Global, value: &Value, modules: ModuleList) -> Result<Env, InputFault>
-    ensures { GivesEnv result (view value.now) modules }
+fn env_of(alloc: Global, value: &Json<'_, '_>, modules: ModuleList) -> Result<Env, InputFault>
+    ensures { GivesEnv result (data_at value.now) modules }
 {
     match Env::new(alloc, modules.into_vec()) {
         Ok(env) => Ok(env),
@@ -186,7 +208,9 @@ pub fn read_input(alloc: Global, bytes: &[u8]) -> Result<Input, InputFault>
     // No bytes spell two inputs.
     ensures once { (one other : Given) → SpellsInput bytes.now one → SpellsInput bytes.now other → one ≡ other }
 {
-    let value = json_value(alloc, bytes)?;
+    let mut scratch = Scratch::new(alloc);
+    let document = document_of(alloc, bytes, &mut scratch)?;
+    let value = document.value();
     let declared = declared_in(alloc, &value)?;
     let env = env_of(alloc, &value, declared.modules)?;
     Ok(Input {

@@ -1,7 +1,7 @@
 //! Items, whose keys depend on their kind.
 
 ghost use Rattle.std.specs.Prelude.{◌≡◌};
-ghost use Rattle.serde_json.specs.View.{view};
+ghost use Rattle.lent_json.specs.Read.{data_at};
 ghost use Rattle.bridge_tool.specs.Form.{object_with};
 ghost use Rattle.bridge_tool.specs.Reading.{Gives};
 ghost use Rattle.bridge_tool.specs.forms.Items.{struct_parts, opaque_parts, enum_parts, trait_parts, function_parts};
@@ -20,7 +20,7 @@ use bridge_ast::lifetimes::LifetimeEnv;
 use bridge_ast::modules::Item;
 use bridge_ast::structs::{Field, OpaqueType, Struct};
 use bridge_ast::traits::Trait;
-use serde_json::Value;
+use lent_json::value::Json;
 use std::alloc::Global;
 
 #[tactic(auto, unfolding(crate::specs::forms::Items::field, crate::specs::forms::Docs::documented))]
@@ -29,7 +29,7 @@ impl FromForm for Field {
 
     ghost form = { field.read };
 
-    fn from_form(alloc: Global, value: &Value) -> Result<Field, ReadFault> {
+    fn from_form(alloc: Global, value: &Json<'_, '_>) -> Result<Field, ReadFault> {
         only(alloc, value, &[Key::Name, Key::Ty, Key::Docs, Key::Attrs])?;
         let name = needed(alloc, value, Key::Name)?;
         let ty = needed(alloc, value, Key::Ty)?;
@@ -49,7 +49,7 @@ impl FromForm for Variant {
 
     ghost form = { variant.read };
 
-    fn from_form(alloc: Global, value: &Value) -> Result<Variant, ReadFault> {
+    fn from_form(alloc: Global, value: &Json<'_, '_>) -> Result<Variant, ReadFault> {
         only(
             alloc,
             value,
@@ -69,8 +69,8 @@ impl FromForm for Variant {
 
 /// A struct, or an out-struct.
 #[tactic(auto, unfolding(crate::specs::forms::Docs::documented))]
-fn struct_item(alloc: Global, value: &Value, output_only: bool) -> Result<Item, ReadFault>
-    ensures { Gives result ((object_with (struct_parts output_only)).read (view value.now)) }
+fn struct_item(alloc: Global, value: &Json<'_, '_>, output_only: bool) -> Result<Item, ReadFault>
+    ensures { Gives result ((object_with (struct_parts output_only)).read (data_at value.now)) }
 {
     only(
         alloc,
@@ -103,8 +103,8 @@ fn struct_item(alloc: Global, value: &Value, output_only: bool) -> Result<Item, 
 
 /// An opaque.
 #[tactic(auto, unfolding(crate::specs::forms::Items::opaque_parts, crate::specs::forms::Docs::documented))]
-fn opaque(alloc: Global, value: &Value) -> Result<Item, ReadFault>
-    ensures { Gives result ((object_with opaque_parts).read (view value.now)) }
+fn opaque(alloc: Global, value: &Json<'_, '_>) -> Result<Item, ReadFault>
+    ensures { Gives result ((object_with opaque_parts).read (data_at value.now)) }
 {
     only(
         alloc,
@@ -139,8 +139,8 @@ fn opaque(alloc: Global, value: &Value) -> Result<Item, ReadFault>
 
 /// An enum.
 #[tactic(auto, unfolding(crate::specs::forms::Items::enum_parts, crate::specs::forms::Docs::documented))]
-fn enum_item(alloc: Global, value: &Value) -> Result<Item, ReadFault>
-    ensures { Gives result ((object_with enum_parts).read (view value.now)) }
+fn enum_item(alloc: Global, value: &Json<'_, '_>) -> Result<Item, ReadFault>
+    ensures { Gives result ((object_with enum_parts).read (data_at value.now)) }
 {
     only(
         alloc,
@@ -169,8 +169,8 @@ fn enum_item(alloc: Global, value: &Value) -> Result<Item, ReadFault>
 
 /// A trait.
 #[tactic(auto, unfolding(crate::specs::forms::Items::trait_parts, crate::specs::forms::Docs::documented))]
-fn trait_item(alloc: Global, value: &Value) -> Result<Item, ReadFault>
-    ensures { Gives result ((object_with trait_parts).read (view value.now)) }
+fn trait_item(alloc: Global, value: &Json<'_, '_>) -> Result<Item, ReadFault>
+    ensures { Gives result ((object_with trait_parts).read (data_at value.now)) }
 {
     only(
         alloc,
@@ -205,8 +205,8 @@ fn trait_item(alloc: Global, value: &Value) -> Result<Item, ReadFault>
 
 /// A function.
 #[tactic(auto, unfolding(crate::specs::forms::Items::function_parts, crate::specs::forms::Methods::signature, crate::specs::forms::Docs::documented))]
-fn function(alloc: Global, value: &Value) -> Result<Item, ReadFault>
-    ensures { Gives result ((object_with function_parts).read (view value.now)) }
+fn function(alloc: Global, value: &Json<'_, '_>) -> Result<Item, ReadFault>
+    ensures { Gives result ((object_with function_parts).read (data_at value.now)) }
 {
     only(
         alloc,
@@ -245,7 +245,7 @@ impl FromForm for Item {
 
     ghost form = { item_form.read };
 
-    fn from_form(alloc: Global, value: &Value) -> Result<Item, ReadFault> {
+    fn from_form(alloc: Global, value: &Json<'_, '_>) -> Result<Item, ReadFault> {
         object(alloc, value)?;
         match needed(alloc, value, Key::Kind)? {
             ItemKind::Struct => struct_item(alloc, value, false),

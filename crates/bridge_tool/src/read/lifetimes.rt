@@ -11,7 +11,7 @@ use bridge_ast::lifetimes::{Lifetime, LifetimeNode};
 use bridge_ast::paths::PathType;
 use bridge_ast::text::{NoMemory, Text};
 use bridge_ast::types::Mutability;
-use serde_json::Value;
+use lent_json::value::Json;
 use std::alloc::Global;
 
 #[tactic(auto, unfolding(crate::specs::forms::Lifetimes::node))]
@@ -20,7 +20,7 @@ impl FromForm for LifetimeNode {
 
     ghost form = { node.read };
 
-    fn from_form(alloc: Global, value: &Value) -> Result<LifetimeNode, ReadFault> {
+    fn from_form(alloc: Global, value: &Json<'_, '_>) -> Result<LifetimeNode, ReadFault> {
         only(alloc, value, &[Key::Name, Key::Longer, Key::Shorter])?;
         Ok(LifetimeNode {
             name: needed(alloc, value, Key::Name)?,
@@ -50,7 +50,7 @@ impl FromForm for Lifetime {
 
     ghost form = { lifetime.read };
 
-    fn from_form(alloc: Global, value: &Value) -> Result<Lifetime, ReadFault> {
+    fn from_form(alloc: Global, value: &Json<'_, '_>) -> Result<Lifetime, ReadFault> {
         Ok(lifetime_called(alloc, text(alloc, value)?)?)
     }
 }
@@ -72,7 +72,7 @@ impl FromForm for (Lifetime, Mutability) {
 
     ghost form = { reference.read };
 
-    fn from_form(alloc: Global, value: &Value) -> Result<(Lifetime, Mutability), ReadFault> {
+    fn from_form(alloc: Global, value: &Json<'_, '_>) -> Result<(Lifetime, Mutability), ReadFault> {
         only(alloc, value, &[Key::Lifetime, Key::Mutable])?;
         let lifetime = needed(alloc, value, Key::Lifetime)?;
         let mutable = flag_under(alloc, value, Key::Mutable)?;
@@ -86,7 +86,7 @@ impl FromForm for PathType {
 
     ghost form = { path.read };
 
-    fn from_form(alloc: Global, value: &Value) -> Result<PathType, ReadFault> {
+    fn from_form(alloc: Global, value: &Json<'_, '_>) -> Result<PathType, ReadFault> {
         only(alloc, value, &[Key::Segments, Key::Lifetimes])?;
         Ok(PathType {
             segments: needed_some(alloc, value, Key::Segments)?,

@@ -1,7 +1,7 @@
 //! Modules, which nest, as one list.
 
 ghost use Rattle.std.specs.Prelude.{◌≡◌, [], ◌∷◌, ◌++◌, IfOk, OnOk};
-ghost use Rattle.serde_json.specs.View.{view};
+ghost use Rattle.lent_json.specs.Read.{data_at};
 ghost use Rattle.bridge_tool.specs.Form.{object_with, read_alone};
 ghost use Rattle.bridge_tool.specs.Reading.{Gives, held};
 ghost use Rattle.bridge_tool.specs.forms.Modules.{contents, module_of, module_parts, module_within, name_of, nested_in, path_in, root};
@@ -15,7 +15,7 @@ use bridge_ast::Items;
 use bridge_ast::attrs::Attrs;
 use bridge_ast::modules::{Alias, Item, Module};
 use bridge_ast::text::{NoMemory, Text};
-use serde_json::Value;
+use lent_json::value::Json;
 use std::alloc::Global;
 use std::marker::Model;
 
@@ -25,7 +25,7 @@ impl FromForm for Alias {
 
     ghost form = { alias.read };
 
-    fn from_form(alloc: Global, value: &Value) -> Result<Alias, ReadFault> {
+    fn from_form(alloc: Global, value: &Json<'_, '_>) -> Result<Alias, ReadFault> {
         only(alloc, value, &[Key::Name, Key::Target])?;
         Ok(Alias {
             name: needed(alloc, value, Key::Name)?,
@@ -47,8 +47,8 @@ pub struct Contents {
 
 /// What stands in a module besides other modules.
 #[tactic(auto, unfolding(crate::specs::forms::Modules::contents))]
-fn contents_in(alloc: Global, value: &Value) -> Result<Contents, ReadFault>
-    ensures { Gives result (read_alone contents (view value.now)) }
+fn contents_in(alloc: Global, value: &Json<'_, '_>) -> Result<Contents, ReadFault>
+    ensures { Gives result (read_alone contents (data_at value.now)) }
 {
     Ok(Contents {
         attrs: held(alloc, value, Key::Attrs, no_attrs(alloc))?,
@@ -64,15 +64,15 @@ impl FromForm for () {
 
     ghost form = { any_text.read };
 
-    fn from_form(alloc: Global, value: &Value) -> Result<(), ReadFault> {
+    fn from_form(alloc: Global, value: &Json<'_, '_>) -> Result<(), ReadFault> {
         text(alloc, value)?;
         Ok(())
     }
 }
 
 /// The name of a module, as it is written.
-fn name_of(value: &Value) -> &str
-    ensures { result.now ≡ name_of (view value.now) }
+fn name_of<'a>(value: &Json<'_, 'a>) -> &'a str
+    ensures { result.now ≡ name_of (data_at value.now) }
 {
     match under(value, Key::Name) {
         Some(found) => match found.as_str() {
@@ -84,8 +84,8 @@ fn name_of(value: &Value) -> &str
 }
 
 /// The path of a module in the module of that path.
-fn path_in(alloc: Global, parent: &[Text], value: &Value) -> Result<Items<Text>, NoMemory>
-    ensures { IfOk result (λ path. path ≡ path_in parent.now (view value.now)) }
+fn path_in(alloc: Global, parent: &[Text], value: &Json<'_, '_>) -> Result<Items<Text>, NoMemory>
+    ensures { IfOk result (λ path. path ≡ path_in parent.now (data_at value.now)) }
 {
     let mut path = Items::new(alloc);
     for segment in parent {
@@ -171,14 +171,15 @@ fn module_of(
 #[cycle(modules)]
 fn inner_modules(
     alloc: Global,
-    value: &Value,
+    value: &Json<'_, '_>,
     path: &[Text],
     levels: usize,
 ) -> Result<ModuleList, ReadFault>
-    ensures { Gives result ((nested_in levels path.now).read (view value.now)) }
+    ensures { Gives result ((nested_in levels path.now).read (data_at value.now)) }
 {
     let mut modules = ModuleList::new(alloc);
-    for (number, entry) in entries(alloc, value)?.iter().enumerate() {
+    let entries = entries(alloc, value)?;
+    for (number, entry) in entries.iter().enumerate() {
         let inner = in_entry(number, module_within(alloc, entry, path, levels))?;
         modules.append(inner)?;
     }
@@ -189,17 +190,17 @@ fn inner_modules(
 #[cycle(modules)]
 fn nested_modules(
     alloc: Global,
-    value: &Value,
+    value: &Json<'_, '_>,
     path: &[Text],
     levels: usize,
 ) -> Result<ModuleList, ReadFault>
-    ensures { Gives result (held [] (nested_in levels path.now).read Key.Modules (view value.now)) }
+    ensures { Gives result (held [] (nested_in levels path.now).read Key.Modules (data_at value.now)) }
 {
     match under(value, Key::Modules) {
         Some(found) => in_member(
             alloc,
             Key::Modules,
-            inner_modules(alloc, found, path, levels),
+            inner_modules(alloc, &found, path, levels),
         ),
         None => Ok(ModuleList::new(alloc)),
     }
@@ -210,11 +211,11 @@ fn nested_modules(
 #[tactic(auto, unfolding(crate::specs::forms::Modules::contents))]
 fn module_object(
     alloc: Global,
-    value: &Value,
+    value: &Json<'_, '_>,
     parent: &[Text],
     levels: usize,
 ) -> Result<ModuleList, ReadFault>
-    ensures { Gives result ((object_with (module_parts (nested_in levels) parent.now)).read (view value.now)) }
+    ensures { Gives result ((object_with (module_parts (nested_in levels) parent.now)).read (data_at value.now)) }
 {
     only(
         alloc,
@@ -238,11 +239,11 @@ fn module_object(
 #[cycle(modules)]
 fn module_within(
     alloc: Global,
-    value: &Value,
+    value: &Json<'_, '_>,
     parent: &[Text],
     levels: usize,
 ) -> Result<ModuleList, ReadFault>
-    ensures { Gives result ((module_within levels parent.now).read (view value.now)) }
+    ensures { Gives result ((module_within levels parent.now).read (data_at value.now)) }
 {
     match levels.checked_sub(1) {
         Some(inner) => module_object(alloc, value, parent, inner),
@@ -252,8 +253,8 @@ fn module_within(
 
 /// The root, with all other modules after it.
 #[tactic(auto, unfolding(crate::specs::forms::Modules::root, crate::specs::forms::Modules::contents))]
-fn root(alloc: Global, value: &Value) -> Result<ModuleList, ReadFault>
-    ensures { Gives result (root.read (view value.now)) }
+fn root(alloc: Global, value: &Json<'_, '_>) -> Result<ModuleList, ReadFault>
+    ensures { Gives result (root.read (data_at value.now)) }
 {
     only(
         alloc,
@@ -270,7 +271,7 @@ impl FromForm for ModuleList {
 
     ghost form = { root.read };
 
-    fn from_form(alloc: Global, value: &Value) -> Result<ModuleList, ReadFault> {
+    fn from_form(alloc: Global, value: &Json<'_, '_>) -> Result<ModuleList, ReadFault> {
         root(alloc, value)
     }
 }

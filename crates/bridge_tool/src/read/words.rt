@@ -1,7 +1,7 @@
 //! The words of the form, each of which stands for one value.
 
 ghost use Rattle.std.specs.Prelude.{◌≡◌, [], ◌∷◌};
-ghost use Rattle.serde_json.specs.View.{view};
+ghost use Rattle.lent_json.specs.Read.{data_at};
 ghost use Rattle.bridge_tool.specs.Form.{find_word, one_word};
 ghost use Rattle.bridge_tool.specs.Reading.{Gives};
 
@@ -9,7 +9,7 @@ use crate::read::fault::{Fault, InputKind, ReadFault};
 use crate::read::reading::{FromForm, text};
 use bridge_ast::docs::{DocType, RustLinkDisplay};
 use bridge_ast::types::{PrimitiveType, StringEncoding};
-use serde_json::Value;
+use lent_json::value::Json;
 use std::alloc::Global;
 
 /// Values for which words stand.
@@ -44,8 +44,8 @@ pub fn find_word<W: Word>(word: &str) -> Option<W>
 }
 
 /// The value whose word the JSON value is.
-pub fn one_word<W: Word>(alloc: Global, value: &Value) -> Result<W, ReadFault>
-    ensures { Gives result ((one_word W.written W.every).read (view value.now)) }
+pub fn one_word<W: Word>(alloc: Global, value: &Json<'_, '_>) -> Result<W, ReadFault>
+    ensures { Gives result ((one_word W.written W.every).read (data_at value.now)) }
 {
     match find_word(text(alloc, value)?) {
         Some(word) => Ok(word),
@@ -112,7 +112,7 @@ impl FromForm for PrimitiveType {
 
     ghost form = { primitive_name.read };
 
-    fn from_form(alloc: Global, value: &Value) -> Result<PrimitiveType, ReadFault> {
+    fn from_form(alloc: Global, value: &Json<'_, '_>) -> Result<PrimitiveType, ReadFault> {
         one_word(alloc, value)
     }
 }
@@ -148,7 +148,7 @@ impl FromForm for StringEncoding {
 
     ghost form = { encoding.read };
 
-    fn from_form(alloc: Global, value: &Value) -> Result<StringEncoding, ReadFault> {
+    fn from_form(alloc: Global, value: &Json<'_, '_>) -> Result<StringEncoding, ReadFault> {
         one_word(alloc, value)
     }
 }
@@ -222,7 +222,7 @@ impl FromForm for DocType {
 
     ghost form = { doc_kind.read };
 
-    fn from_form(alloc: Global, value: &Value) -> Result<DocType, ReadFault> {
+    fn from_form(alloc: Global, value: &Json<'_, '_>) -> Result<DocType, ReadFault> {
         one_word(alloc, value)
     }
 }
@@ -258,7 +258,7 @@ impl FromForm for RustLinkDisplay {
 
     ghost form = { display.read };
 
-    fn from_form(alloc: Global, value: &Value) -> Result<RustLinkDisplay, ReadFault> {
+    fn from_form(alloc: Global, value: &Json<'_, '_>) -> Result<RustLinkDisplay, ReadFault> {
         one_word(alloc, value)
     }
 }
@@ -311,7 +311,7 @@ impl FromForm for ItemKind {
 
     ghost form = { (one_word item_kind_text every_item_kind).read };
 
-    fn from_form(alloc: Global, value: &Value) -> Result<ItemKind, ReadFault> {
+    fn from_form(alloc: Global, value: &Json<'_, '_>) -> Result<ItemKind, ReadFault> {
         one_word(alloc, value)
     }
 }
