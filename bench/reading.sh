@@ -60,8 +60,8 @@ build() {
     cat >>main.rt <<'PROGRAM'
 
 use crate::bytes::read_all;
-use crate::read::input::read_input;
 use crate::source::StdSource;
+use bridge_read::input::read_input;
 use serde_json::Value;
 use std::io::Error;
 use std::process::ExitCode;

@@ -7,8 +7,8 @@ use Rattle.bridge_ast.specs.declared.attrs.Attrs.{Attrs}
 use Rattle.bridge_ast.specs.declared.docs.Docs.{Docs}
 use Rattle.bridge_ast.specs.declared.paths.PathType.{PathType}
 use Rattle.bridge_tool.specs.Built.{one_segment}
-use Rattle.bridge_tool.specs.forms.Attrs.{no_attrs}
-use Rattle.bridge_tool.specs.forms.Docs.{no_docs}
+use Rattle.bridge_read.specs.forms.Attrs.{no_attrs}
+use Rattle.bridge_read.specs.forms.Docs.{no_docs}
 
 -- a test that failed
 pub fails : {P : Type 0} (a : Bool) → IsTrue a ↔ P → a ≡ false → ¬ P

@@ -9,13 +9,13 @@ use Rattle.bridge_tool.specs.Breaks.{BreakNothing}
 use Rattle.bridge_tool.specs.Headline.{Headline, IsComplete, IsUndisturbed}
 use Rattle.bridge_tool.specs.Lines.{Reported, AreRefusedBy}
 use Rattle.bridge_tool.specs.Page.{IsPage}
-use Rattle.bridge_tool.specs.declared.read.input.Input.{Input}
+use Rattle.bridge_read.specs.declared.input.Input.{Input}
 use Rattle.bridge_tool.specs.Built.{AreBuilt}
 use Rattle.bridge_tool.specs.Declining.{IsDeclinedBy}
 use Rattle.bridge_tool.specs.Running.{World, Ran, Spells, WereRead}
 use Rattle.bridge_tool.specs.Statuses.{code_of}
 use Rattle.bridge_tool.proofs.JudgeLemmas.{contains_first}
-use Rattle.bridge_tool.proofs.InputLaws.{spelled_once}
+use Rattle.bridge_read.proofs.InputLaws.{spelled_once}
 
 -- what holds of what is told
 if_told : {A : Type 0} (P : A → Type 0) {left : Option A} {had : A} → IfSome left P → left ≡ Some had → P had

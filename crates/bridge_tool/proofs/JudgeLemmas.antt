@@ -15,12 +15,12 @@ use Rattle.bridge_tool.specs.Checks.{Check, name, path, lifetime, Fails, Tested,
 use Rattle.bridge_tool.specs.Chosen.{Chosen}
 use Rattle.bridge_tool.specs.declared.verdict.Verdict.{Verdict}
 use Rattle.bridge_tool.specs.declared.verdict.Verdict.TheVariants.{Declarations, Faulty, NotBuilt}
-use Rattle.bridge_tool.specs.declared.read.fault.InputKind.{InputKind}
-use Rattle.bridge_tool.specs.declared.read.input.Input.{Input}
-use Rattle.bridge_tool.specs.declared.read.input.InputFault.{InputFault}
-use Rattle.bridge_tool.specs.declared.read.input.InputFault.TheVariants.{NotDeclarations}
+use Rattle.bridge_read.specs.declared.fault.InputKind.{InputKind}
+use Rattle.bridge_read.specs.declared.input.Input.{Input}
+use Rattle.bridge_read.specs.declared.input.InputFault.{InputFault}
+use Rattle.bridge_read.specs.declared.input.InputFault.TheVariants.{NotDeclarations}
 use Rattle.bridge_tool.specs.Built.{AreBuilt}
-use Rattle.bridge_tool.specs.Inputs.{IsReadAs, IsToldOf, SpellsInput}
+use Rattle.bridge_read.specs.Inputs.{IsReadAs, IsToldOf, SpellsInput}
 use Rattle.bridge_tool.specs.Judging.{Judges, JudgesModules}
 use Rattle.bridge_tool.specs.Lines.{arg_of, rule_of}
 use Rattle.bridge_tool.specs.Reports.{TestFails}

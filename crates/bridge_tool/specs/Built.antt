@@ -16,8 +16,8 @@ use Rattle.bridge_ast.specs.declared.types.Mutability.{Mutability}
 use Rattle.bridge_ast.specs.declared.types.Mutability.TheVariants.{Immutable}
 use Rattle.bridge_ast.specs.declared.types.TypeName.{TypeName, out-TypeName}
 use Rattle.bridge_ast.specs.declared.types.TypeName.TheOpen.{TypeName-F}
-use Rattle.bridge_tool.specs.forms.Attrs.{no_attrs}
-use Rattle.bridge_tool.specs.forms.Docs.{no_docs}
+use Rattle.bridge_read.specs.forms.Attrs.{no_attrs}
+use Rattle.bridge_read.specs.forms.Docs.{no_docs}
 use Rattle.bridge_tool.specs.Checks.{Layer}
 
 -- the path of that one segment

@@ -1,12 +1,12 @@
 -- What the verdict on an input says.
 use Rattle.std.specs.Prelude.{◌≡◌, ℕ, List}
 use Rattle.bridge_ast.specs.declared.modules.Module.{Module}
-use Rattle.bridge_tool.specs.declared.read.input.Input.{Input}
+use Rattle.bridge_read.specs.declared.input.Input.{Input}
 use Rattle.bridge_tool.specs.declared.verdict.Verdict.{Verdict}
 use Rattle.bridge_tool.specs.declared.verdict.Verdict.TheVariants.{Declarations, Faulty, NotBuilt}
 use Rattle.bridge_tool.specs.Built.{AreBuilt}
 use Rattle.bridge_tool.specs.Declining.{IsFaultOf}
-use Rattle.bridge_tool.specs.Inputs.{SpellsInput}
+use Rattle.bridge_read.specs.Inputs.{SpellsInput}
 use Rattle.bridge_tool.specs.Running.{Spells}
 
 -- of the modules of an input: they are built, or they aren't

@@ -2,7 +2,7 @@
 use Rattle.std.specs.Prelude.{◌≡◌, ◌≤◌, ◌<◌, ◌^◌, ◌⊎◌, ◌++◌, ℕ, List, [], ◌∷◌, length, map, codes, string_bytes, Option, Some, IfSome, String, Result, Ok, Err}
 use Rattle.std.specs.declared.alloc.Global.{Global}
 use Rattle.bridge_ast.specs.declared.modules.Module.{Module}
-use Rattle.bridge_tool.specs.declared.read.input.Input.{Input}
+use Rattle.bridge_read.specs.declared.input.Input.{Input}
 use Rattle.bridge_tool.specs.declared.sink.SinkFault.{SinkFault}
 use Rattle.bridge_tool.specs.declared.sink.SinkFault.TheVariants.{Failed, NoMemory}
 use Rattle.bridge_tool.specs.declared.status.Status.{Status}
@@ -10,7 +10,7 @@ use Rattle.bridge_tool.specs.declared.status.Status.TheVariants as status
 use Rattle.bridge_tool.specs.Breaks.{BreakNothing}
 use Rattle.bridge_tool.specs.Built.{AreBuilt}
 use Rattle.bridge_tool.specs.Declining.{IsDeclinedBy}
-use Rattle.bridge_tool.specs.Inputs.{SpellsInput}
+use Rattle.bridge_read.specs.Inputs.{SpellsInput}
 use Rattle.bridge_tool.specs.Lines.{Reported, AreRefusedBy, lines}
 use Rattle.bridge_tool.specs.Outside.{Rose, taken_with}
 use Rattle.bridge_tool.specs.Page.{IsPage}

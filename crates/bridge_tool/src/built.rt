@@ -2,8 +2,8 @@
 
 ghost use Rattle.std.specs.Prelude.{◌≡◌, ◌↔◌, [], IsTrue, All};
 ghost use Rattle.bridge_ast.specs.declared.types.TypeName.{out-TypeName};
-ghost use Rattle.bridge_tool.specs.forms.Attrs.{no_attrs};
-ghost use Rattle.bridge_tool.specs.forms.Docs.{no_docs};
+ghost use Rattle.bridge_read.specs.forms.Attrs.{no_attrs};
+ghost use Rattle.bridge_read.specs.forms.Docs.{no_docs};
 ghost use Rattle.bridge_tool.specs.Built.{AreBuilt, IsBorrow, IsBuiltBorrow, IsBuiltItem, IsBuiltMethod, IsBuiltModule, IsBuiltOpaque, IsBuiltParam, IsBuiltReceiver, IsBuiltReturn, IsBuiltSelf, IsBuiltSignature, IsBuiltType, IsGiven, IsNamed, IsPassed, IsPlain, IsReferenceTo, one_segment};
 
 use bridge_ast::attrs::Attrs;

@@ -4,8 +4,8 @@ ghost use Rattle.bridge_tool.specs.Declining.{at_pointer, fault_line, fault_plac
 ghost use Rattle.bridge_tool.specs.Printing.{Delivers, Prints};
 
 use crate::printer::{Printer, finish, put_text};
-use crate::read::fault::InputKind;
 use crate::sink::{Sink, SinkFault};
+use bridge_read::fault::InputKind;
 
 fn put_pointer<K: Sink>(sink: &mut K, out: &mut Printer, pointer: &str)
     ensures { Prints K.taken K.faults sink.old out.old sink.new out.new (at_pointer pointer.now) }

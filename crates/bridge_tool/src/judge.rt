@@ -4,10 +4,10 @@ ghost use Rattle.std.specs.Prelude.{IfOk};
 ghost use Rattle.bridge_tool.specs.Judging.{Judges, JudgesModules};
 
 use crate::built::is_built;
-use crate::read::input::{InputFault, read_input};
 use crate::verdict::Verdict;
 use bridge_ast::environment::Env;
 use bridge_ast::text::NoMemory;
+use bridge_read::input::{InputFault, read_input};
 use std::alloc::{AllocError, Global};
 
 /// The verdict on an environment that was read.

@@ -15,7 +15,6 @@ mod judge;
 mod lines;
 mod page;
 pub mod printer;
-pub mod read;
 mod report;
 mod rules;
 pub mod run;

@@ -5,5 +5,4 @@ mod examples;
 mod inputs;
 mod modules;
 mod outside;
-mod reading;
 mod running;

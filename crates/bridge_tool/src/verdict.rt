@@ -1,8 +1,8 @@
 //! What the bytes of an input are.
 
-use crate::read::fault::InputKind;
 use bridge_ast::environment::Env;
 use bridge_ast::text::Text;
+use bridge_read::fault::InputKind;
 
 /// What the bytes of an input are.
 #[derive(Drop)]

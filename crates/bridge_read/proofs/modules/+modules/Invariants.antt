@@ -1,0 +1,22 @@
+use Rattle.std.proofs.Common.{◌≡◌, ◌+◌, ◌*◌, take, List, Ok}
+use Rattle.lent_json.specs.Lists.{items_at}
+use Rattle.bridge_ast.specs.declared.modules.Module.{Module}
+use Rattle.bridge_read.specs.Reading.{each_of}
+use Rattle.bridge_read.specs.forms.Modules.{joined, module_within}
+use Rattle.bridge_read.proofs.modules.+modules.Given as goal
+
+abbrev pub decreases-module_within : goal.decreases-module_within
+decreases-module_within l = 4 * l.levels
+
+abbrev pub decreases-inner_modules : goal.decreases-inner_modules
+decreases-inner_modules l = 4 * l.levels + 1
+
+abbrev pub invariant-inner_modules-loop-number : goal.invariant-inner_modules-loop-number
+invariant-inner_modules-loop-number l =
+    (lists : List (List Module)) × (each_of (module_within l.levels l.path).read 0 (items_at (take l.number l.entry-items)) ≡ Ok lists) × (joined lists ≡ l.modules)
+
+abbrev pub decreases-nested_modules : goal.decreases-nested_modules
+decreases-nested_modules l = 4 * l.levels + 2
+
+abbrev pub decreases-module_object : goal.decreases-module_object
+decreases-module_object l = 4 * l.levels + 3

@@ -1,0 +1,122 @@
+-- Which bytes spell which input, and why bytes spell none.
+use Rattle.std.specs.Prelude.{IsUtf8, ◌≡◌, ℕ, List, [], ◌++◌, ◌∷◌, ◌⊎◌, slice_get, Some, Result, Ok, Err}
+use Rattle.std.specs.List.{flat_map}
+use Rattle.serde_json.specs.Data.{Data}
+use Rattle.serde_json.specs.Read.{read}
+use Rattle.bridge_ast.specs.EnvFaults.{faults_of}
+use Rattle.bridge_ast.specs.Sound.{AreSound}
+use Rattle.bridge_ast.specs.declared.environment.fault.EnvFault.{EnvFault}
+use Rattle.bridge_ast.specs.declared.environment.fault.EnvFault.TheVariants.{Bad, NoMemory as no_env_memory}
+use Rattle.bridge_ast.specs.declared.environment.fault.EnvFaultKind.{EnvFaultKind}
+use Rattle.bridge_ast.specs.declared.environment.fault.EnvFaultKind.TheVariants as env
+use Rattle.bridge_read.specs.declared.fault.Fault.{Fault}
+use Rattle.bridge_read.specs.declared.fault.InputKind.{InputKind}
+use Rattle.bridge_read.specs.declared.fault.InputKind.TheVariants as kind
+use Rattle.bridge_read.specs.declared.input.Declared.{Declared}
+use Rattle.bridge_ast.specs.declared.environment.fault.EnvPlace.{EnvPlace}
+use Rattle.bridge_ast.specs.declared.modules.Module.{Module}
+use Rattle.bridge_read.specs.declared.input.Input.{Input}
+use Rattle.bridge_read.specs.declared.input.InputFault.{InputFault}
+use Rattle.bridge_read.specs.declared.input.InputFault.TheVariants.{NotDeclarations, NoMemory}
+use Rattle.bridge_read.specs.Reading.{here}
+use Rattle.bridge_read.specs.Pointers.{module_pointers, place_steps, pointer_text}
+use Rattle.bridge_read.specs.forms.Inputs.{declared_of, whole}
+
+-- the bytes are a JSON text (RFC 8259) in UTF-8 that nests at most 127 deep and whose numbers are within a 64-bit float's range,
+-- and its value is d
+pub record IsJsonOf (bytes : List ℕ) (d : Data) : Type 0 where
+  pub utf8 : IsUtf8 bytes
+  pub value : read bytes ≡ Some d
+
+-- the bytes are such a text
+abbrev pub IsJson : List ℕ → Type 0
+IsJson bytes = (d : Data) × IsJsonOf bytes d
+
+-- the bytes spell the input: their value has the form, and the modules fit together
+pub record SpellsInput (bytes : List ℕ) (input : Input) : Type 0 where
+  pub value : Data
+  pub json : IsJsonOf bytes value
+  pub form : whole.Spells value (declared_of input.env input.validator input.config input.urls)
+  pub sound : AreSound input.env
+
+-- ---- faults
+
+-- the kind of a fault between declarations. No module that JSON spells lacks its parent
+abbrev pub kind_of : EnvFaultKind → InputKind
+kind_of env.DuplicateModule = kind.DuplicateModule
+kind_of env.ParentMissing = kind.WrongForm
+kind_of env.DuplicateItem = kind.DuplicateItem
+kind_of env.DuplicateLifetime = kind.DuplicateLifetime
+kind_of env.BoundOutOfRange = kind.BoundOutOfRange
+kind_of env.BoundOneSided = kind.BoundOneSided
+
+-- a fault of a kind at a place of the modules that the value declares, as one of the value
+abbrev pub fault_of : Data → EnvFaultKind → EnvPlace → Fault
+fault_of d what at = record { kind = kind_of what; at = place_steps (module_pointers d) at }
+
+abbrev pub told_in : Data → EnvFault → List Fault
+told_in d (Bad what at other) = fault_of d what at ∷ []
+told_in d no_env_memory = []
+
+-- the faults between the declarations of a value that has the form
+abbrev pub between : Data → Result Declared Fault → List Fault
+between d (Ok declared) = flat_map (told_in d) (faults_of declared.modules)
+between d (Err fault) = []
+
+-- all faults of a value, in order: those of its form, and after them those between declarations
+abbrev pub all_faults : Data → List Fault
+all_faults d = whole.faults d ++ between d (whole.read d)
+
+-- ---- what is told
+
+-- the fault is told: its kind, and the text of its pointer; want of memory tells nothing
+abbrev pub Tells : InputFault → Fault → Type 0
+Tells (NotDeclarations what pointer) fault = (what ≡ fault.kind) × (pointer ≡ pointer_text fault.at)
+Tells NoMemory fault = Unit {0}
+
+-- the bytes are no JSON text, and that is told at the whole
+pub record IsNone (bytes : List ℕ) (told : InputFault) : Type 0 where
+  pub none : ¬ IsJson bytes
+  pub tells : Tells told (here kind.NotJson)
+
+-- the bytes are a JSON text, and the first fault of its value is told
+pub record IsFirstFault (bytes : List ℕ) (told : InputFault) : Type 0 where
+  pub value : Data
+  pub json : IsJsonOf bytes value
+  pub fault : Fault
+  pub first : slice_get (all_faults value) 0 ≡ Some fault
+  pub tells : Tells told fault
+
+-- what is told of bytes that spell no input
+abbrev pub IsToldOf : List ℕ → InputFault → Type 0
+IsToldOf bytes (NotDeclarations what pointer) =
+    IsNone bytes (NotDeclarations what pointer) ⊎ IsFirstFault bytes (NotDeclarations what pointer)
+IsToldOf bytes NoMemory = Unit {0}
+
+-- ---- what reading answers
+
+-- where the bytes are read as no JSON value
+abbrev pub IsNoJson : List ℕ → InputFault → Type 0
+IsNoJson bytes (NotDeclarations what pointer) = IsNone bytes (NotDeclarations what pointer)
+IsNoJson bytes NoMemory = Unit {0}
+
+-- what the value is read as, or its first fault, unless memory ran out
+abbrev pub GivesForm : Result Declared InputFault → Data → Type 0
+GivesForm (Ok declared) d = whole.read d ≡ Ok declared
+GivesForm (Err NoMemory) d = Unit {0}
+GivesForm (Err (NotDeclarations what pointer)) d =
+    (fault : Fault) × (whole.read d ≡ Err fault) × Tells (NotDeclarations what pointer) fault
+
+-- the environment of the modules that the value declares, or their first fault, unless memory ran out
+abbrev pub GivesEnv : Result (List Module) InputFault → Data → List Module → Type 0
+GivesEnv (Ok env) d modules = (env ≡ modules) × AreSound modules
+GivesEnv (Err NoMemory) d modules = Unit {0}
+GivesEnv (Err (NotDeclarations what pointer)) d modules =
+    ¬ AreSound modules × ((fault : Fault) × (slice_get (flat_map (told_in d) (faults_of modules)) 0 ≡ Some fault)
+    × Tells (NotDeclarations what pointer) fault)
+
+-- the input is read, unless memory ran out
+abbrev pub IsReadAs : Result Input InputFault → Input → Type 0
+IsReadAs (Ok read) input = read ≡ input
+IsReadAs (Err NoMemory) input = Unit {0}
+IsReadAs (Err (NotDeclarations what pointer)) input = ⊥

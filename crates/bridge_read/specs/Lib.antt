@@ -1,0 +1,9 @@
+pub mod Form
+pub mod Inputs
+pub mod Keys
+pub mod Known
+pub mod Places
+pub mod Pointers
+pub mod Reading
+pub mod Words
+pub mod forms

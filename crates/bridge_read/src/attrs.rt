@@ -1,0 +1,334 @@
+//! Attributes: conditions, literals and marks.
+
+ghost use Rattle.std.specs.Prelude.{◌≡◌, None, Some};
+ghost use Rattle.std.specs.Str.{all_ascii_digits};
+ghost use Rattle.lent_json.specs.Read.{data_at};
+ghost use Rattle.bridge_read.specs.Reading.{Gives, here, list_of};
+ghost use Rattle.bridge_read.specs.forms.Attrs.{condition_called, condition_keys, condition_under, condition_within, condition_word, argument_of, digits, literal_called, literal_keys, literal_under, literal_word, no_attrs, sole_char};
+
+use crate::fault::{Fault, InputKind, ReadFault};
+use crate::keys::Key;
+use crate::objects::{in_entry, in_member, only, sole};
+use crate::reading::{
+    FromForm, entries, held, listed, needed, needed_some, optional, room_for, text, two,
+};
+use bridge_ast::attrs::{
+    Assign, Attrs, DiplomatBackendAttr, DiplomatBackendAttrCfg, Lit, Meta, MetaValue, RenameAttr,
+    RenameFault,
+};
+use bridge_ast::text::Text;
+use bridge_ast::{Boxed, Items};
+use lent_json::value::Json;
+use std::alloc::Global;
+
+fn wrong(alloc: Global) -> ReadFault
+    ensures { result ≡ ReadFault.Bad (here InputKind.WrongForm) }
+{
+    ReadFault::Bad(Fault::here(alloc, InputKind::WrongForm))
+}
+
+/// The condition for which a word stands: `*` or `auto`.
+#[tactic(auto, unfolding(crate::specs::forms::Attrs::condition_called))]
+fn condition_called(word: &str) -> Option<DiplomatBackendAttrCfg>
+    ensures { result ≡ condition_called word.now }
+{
+    if word == "*" {
+        Some(DiplomatBackendAttrCfg::Star)
+    } else if word == "auto" {
+        Some(DiplomatBackendAttrCfg::Auto)
+    } else {
+        None
+    }
+}
+
+/// A condition for which a word stands.
+#[tactic(auto, unfolding(crate::specs::forms::Attrs::condition_word))]
+fn condition_word(alloc: Global, value: &Json<'_, '_>) -> Result<DiplomatBackendAttrCfg, ReadFault>
+    ensures { Gives result (condition_word.read (data_at value.now)) }
+{
+    condition_called(text(alloc, value)?).ok_or(wrong(alloc))
+}
+
+/// The conditions of a list.
+#[cycle(conditions)]
+fn condition_list(
+    alloc: Global,
+    value: &Json<'_, '_>,
+    levels: usize,
+) -> Result<Items<DiplomatBackendAttrCfg>, ReadFault>
+    ensures { Gives result (list_of (condition_within levels).read (data_at value.now)) }
+{
+    let entries = entries(alloc, value)?;
+    let mut list = room_for(alloc, entries.len())?;
+    for (number, entry) in entries.iter().enumerate() {
+        list.push(in_entry(number, condition_within(alloc, entry, levels))?)?;
+    }
+    Ok(list)
+}
+
+/// What stands under the key of a condition, by the key.
+#[cycle(conditions)]
+fn condition_under(
+    alloc: Global,
+    key: Key,
+    value: &Json<'_, '_>,
+    levels: usize,
+) -> Result<DiplomatBackendAttrCfg, ReadFault>
+    ensures { Gives result ((condition_under (condition_within levels) key).read (data_at value.now)) }
+{
+    match key {
+        Key::Backend => Ok(DiplomatBackendAttrCfg::BackendName(Text::from_form(alloc, value)?)),
+        Key::Pair => {
+            let (name, value) = two(alloc, value)?;
+            Ok(DiplomatBackendAttrCfg::NameValue(name, value))
+        }
+        Key::Not => {
+            let inner = condition_within(alloc, value, levels)?;
+            Ok(DiplomatBackendAttrCfg::Not(Boxed::new(alloc, inner)?))
+        }
+        Key::Any => Ok(DiplomatBackendAttrCfg::Any(condition_list(alloc, value, levels)?)),
+        Key::All => Ok(DiplomatBackendAttrCfg::All(condition_list(alloc, value, levels)?)),
+        _ => Err(wrong(alloc)),
+    }
+}
+
+/// A condition in which conditions nest at most so deep.
+#[cycle(conditions)]
+fn condition_within(
+    alloc: Global,
+    value: &Json<'_, '_>,
+    levels: usize,
+) -> Result<DiplomatBackendAttrCfg, ReadFault>
+    ensures { Gives result ((condition_within levels).read (data_at value.now)) }
+{
+    let Some(inner) = levels.checked_sub(1) else {
+        return Err(wrong(alloc));
+    };
+    if let Some(_) = value.as_str() {
+        return condition_word(alloc, value);
+    }
+    let keys = condition_keys();
+    only(alloc, value, keys)?;
+    let (key, found) = sole(alloc, value, keys)?;
+    in_member(alloc, key, condition_under(alloc, key, &found, inner))
+}
+
+/// The keys of conditions.
+fn condition_keys() -> &'static [Key]
+    ensures { result.now ≡ condition_keys }
+{
+    &[Key::Backend, Key::Pair, Key::Not, Key::Any, Key::All]
+}
+
+#[tactic(auto, unfolding(crate::specs::forms::Attrs::condition))]
+impl FromForm for DiplomatBackendAttrCfg {
+    ghost use Rattle.bridge_read.specs.forms.Attrs.{condition};
+
+    ghost form = { condition.read };
+
+    fn from_form(alloc: Global, value: &Json<'_, '_>) -> Result<DiplomatBackendAttrCfg, ReadFault> {
+        condition_within(alloc, value, 128)
+    }
+}
+
+/// The character of a text that has one.
+#[tactic(auto, unfolding(crate::specs::forms::Attrs::sole_char))]
+fn sole_char(written: &str) -> Option<char>
+    ensures { result ≡ sole_char written.now }
+{
+    let mut chars = written.chars();
+    let first = chars.next()?;
+    match chars.next() {
+        Some(_) => None,
+        None => Some(first),
+    }
+}
+
+/// Whether all bytes are decimal digits.
+fn are_digits(bytes: &[u8]) -> bool
+    ensures { result ≡ all_ascii_digits bytes.now }
+{
+    for byte in bytes {
+        if !byte.is_ascii_digit() {
+            return false;
+        }
+    }
+    true
+}
+
+/// A text of one or more decimal digits.
+#[tactic(auto, unfolding(crate::specs::forms::Attrs::digits))]
+fn digits(alloc: Global, value: &Json<'_, '_>) -> Result<Text, ReadFault>
+    ensures { Gives result (digits.read (data_at value.now)) }
+{
+    let written = text(alloc, value)?;
+    if written.is_empty() || !are_digits(written.as_bytes()) {
+        return Err(wrong(alloc));
+    }
+    Ok(Text::new(alloc, written)?)
+}
+
+/// The literal for which a word stands: `other`.
+#[tactic(auto, unfolding(crate::specs::forms::Attrs::literal_word, crate::specs::forms::Attrs::literal_called))]
+fn literal_word(alloc: Global, value: &Json<'_, '_>) -> Result<Lit, ReadFault>
+    ensures { Gives result (literal_word.read (data_at value.now)) }
+{
+    if text(alloc, value)? == "other" {
+        Ok(Lit::Other)
+    } else {
+        Err(wrong(alloc))
+    }
+}
+
+/// What stands under the key of a literal, by the key.
+fn literal_under(alloc: Global, key: Key, value: &Json<'_, '_>) -> Result<Lit, ReadFault>
+    ensures { Gives result ((literal_under key).read (data_at value.now)) }
+{
+    match key {
+        Key::Bool => Ok(Lit::Bool(bool::from_form(alloc, value)?)),
+        Key::Char => match sole_char(text(alloc, value)?) {
+            Some(char) => Ok(Lit::Char(char)),
+            None => Err(wrong(alloc)),
+        },
+        Key::Byte => Ok(Lit::Byte(u8::from_form(alloc, value)?)),
+        Key::Int => Ok(Lit::Int(digits(alloc, value)?)),
+        Key::Float => {
+            text(alloc, value)?;
+            Ok(Lit::Float)
+        }
+        Key::Str => Ok(Lit::Str(Text::from_form(alloc, value)?)),
+        _ => Err(wrong(alloc)),
+    }
+}
+
+/// The keys of literals.
+fn literal_keys() -> &'static [Key]
+    ensures { result.now ≡ literal_keys }
+{
+    &[
+        Key::Bool,
+        Key::Char,
+        Key::Byte,
+        Key::Int,
+        Key::Float,
+        Key::Str,
+    ]
+}
+
+#[tactic(auto, unfolding(crate::specs::forms::Attrs::literal))]
+impl FromForm for Lit {
+    ghost use Rattle.bridge_read.specs.forms.Attrs.{literal};
+
+    ghost form = { literal.read };
+
+    fn from_form(alloc: Global, value: &Json<'_, '_>) -> Result<Lit, ReadFault> {
+        if let Some(_) = value.as_str() {
+            return literal_word(alloc, value);
+        }
+        let keys = literal_keys();
+        only(alloc, value, keys)?;
+        let (key, found) = sole(alloc, value, keys)?;
+        in_member(alloc, key, literal_under(alloc, key, &found))
+    }
+}
+
+#[tactic(auto, unfolding(crate::specs::forms::Attrs::assign))]
+impl FromForm for Assign {
+    ghost use Rattle.bridge_read.specs.forms.Attrs.{assign};
+
+    ghost form = { assign.read };
+
+    fn from_form(alloc: Global, value: &Json<'_, '_>) -> Result<Assign, ReadFault> {
+        only(alloc, value, &[Key::Name, Key::Value])?;
+        Ok(Assign {
+            name: needed(alloc, value, Key::Name)?,
+            value: needed(alloc, value, Key::Value)?,
+        })
+    }
+}
+
+/// The argument of a mark, which has a value or a list and not both.
+fn argument_of(value: Option<Lit>, list: Option<Items<Assign>>) -> Option<MetaValue>
+    ensures { result ≡ argument_of value list }
+{
+    match (value, list) {
+        (None, None) => Some(MetaValue::Empty),
+        (Some(value), None) => Some(MetaValue::Literal(value)),
+        (None, Some(assigns)) => Some(MetaValue::Assignments(assigns)),
+        (Some(_), Some(_)) => None,
+    }
+}
+
+#[tactic(auto, unfolding(crate::specs::forms::Attrs::mark))]
+impl FromForm for DiplomatBackendAttr {
+    ghost use Rattle.bridge_read.specs.forms.Attrs.{mark};
+
+    ghost form = { mark.read };
+
+    fn from_form(alloc: Global, value: &Json<'_, '_>) -> Result<DiplomatBackendAttr, ReadFault> {
+        only(
+            alloc,
+            value,
+            &[Key::Condition, Key::Mark, Key::Value, Key::List],
+        )?;
+        let cfg = needed(alloc, value, Key::Condition)?;
+        let path = needed_some(alloc, value, Key::Mark)?;
+        let literal = optional(alloc, value, Key::Value)?;
+        let assigns = optional(alloc, value, Key::List)?;
+        match argument_of(literal, assigns) {
+            Some(value) => Ok(DiplomatBackendAttr {
+                cfg,
+                meta: Meta { path, value },
+            }),
+            None => Err(wrong(alloc)),
+        }
+    }
+}
+
+#[tactic(auto, unfolding(crate::specs::forms::Attrs::pattern, crate::specs::forms::Attrs::pattern_of))]
+impl FromForm for RenameAttr {
+    ghost use Rattle.bridge_read.specs.forms.Attrs.{pattern};
+
+    ghost form = { pattern.read };
+
+    fn from_form(alloc: Global, value: &Json<'_, '_>) -> Result<RenameAttr, ReadFault> {
+        match RenameAttr::new(alloc, text(alloc, value)?) {
+            Ok(attr) => Ok(attr),
+            Err(RenameFault::Pattern) => Err(wrong(alloc)),
+            Err(RenameFault::NoMemory) => Err(ReadFault::NoMemory),
+        }
+    }
+}
+
+#[tactic(auto, unfolding(crate::specs::forms::Attrs::attrs))]
+impl FromForm for Attrs {
+    ghost use Rattle.bridge_read.specs.forms.Attrs.{attrs};
+
+    ghost form = { attrs.read };
+
+    fn from_form(alloc: Global, value: &Json<'_, '_>) -> Result<Attrs, ReadFault> {
+        only(
+            alloc,
+            value,
+            &[Key::Features, Key::Marks, Key::AbiRename, Key::Deprecated],
+        )?;
+        Ok(Attrs {
+            features: listed(alloc, value, Key::Features)?,
+            marks: listed(alloc, value, Key::Marks)?,
+            abi_rename: held(alloc, value, Key::AbiRename, RenameAttr::empty())?,
+            deprecated: optional(alloc, value, Key::Deprecated)?,
+        })
+    }
+}
+
+/// The attributes of a declaration on which nothing is written.
+pub fn no_attrs(alloc: Global) -> Attrs
+    ensures { result ≡ no_attrs }
+{
+    Attrs {
+        features: Items::new(alloc),
+        marks: Items::new(alloc),
+        abi_rename: RenameAttr::empty(),
+        deprecated: None,
+    }
+}

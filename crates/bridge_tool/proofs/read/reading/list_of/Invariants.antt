@@ -1,7 +1,0 @@
-use Rattle.std.proofs.Common.{◌≡◌, take, Ok}
-use Rattle.lent_json.specs.Lists.{items_at}
-use Rattle.bridge_tool.specs.Reading.{each_of}
-use Rattle.bridge_tool.proofs.read.reading.list_of.Given as goal
-
-abbrev pub invariant-loop-number : goal.invariant-loop-number
-invariant-loop-number g l = each_of g.T.FromForm.form 0 (items_at (take l.number l.entry-items)) ≡ Ok l.list
