@@ -19,11 +19,11 @@ use Rattle.bridge_read.proofs.forms.Modules.{contents_lawful}
 abbrev given : {A : Type 0} → A → Option A
 given x = Some x
 
-given_is : {A : Type 0} (x y : A) → given x ≡ given y → x ≡ y
+pub given_is : {A : Type 0} (x y : A) → given x ≡ given y → x ≡ y
 given_is x y e = cc
 
 -- what follows from whatever stands under a key, or from its absence
-held_gives : {A : Type 0} (form : Form A) (absent : A) (o : Option Data) (K : A → Type 0) (C : Type 0) → ((x : A) → K x → C) → HeldAt form absent o K → C
+pub held_gives : {A : Type 0} (form : Form A) (absent : A) (o : Option Data) (K : A → Type 0) (C : Type 0) → ((x : A) → K x → C) → HeldAt form absent o K → C
 held_gives form absent None K C gives h = gives absent h
 held_gives form absent (Some d) K C gives h = gives h.0 h.2
 
@@ -96,7 +96,7 @@ in_root_counted (Some d) declared h =
     let under_key = length-map (modules_within 65 d) (λ steps. at_key key.Root ∷ steps) in
     omega (arith, all, same, under_key)
 
-needed_grows : {A : Type 0} (form : Form A) (o : Option Data) (K L : A → Type 0) → ((x : A) → K x → L x) → NeededAt form o K → NeededAt form o L
+pub needed_grows : {A : Type 0} (form : Form A) (o : Option Data) (K L : A → Type 0) → ((x : A) → K x → L x) → NeededAt form o K → NeededAt form o L
 needed_grows form None K L more h = h
 needed_grows form (Some d) K L more h = (h.0, h.1, more h.0 h.2)
 

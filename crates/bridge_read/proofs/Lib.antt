@@ -12,6 +12,7 @@ pub mod ModuleLemmas
 pub mod NameLemmas
 pub mod ObjectLaws
 pub mod PairLaws
+pub mod ParentLemmas
 pub mod PartLaws
 pub mod PointerLemmas
 pub mod Proved

@@ -41,7 +41,7 @@ pub record SpellsInput (bytes : List ℕ) (input : Input) : Type 0 where
 
 -- ---- faults
 
--- the kind of a fault between declarations. No module that JSON spells lacks its parent
+-- the kind of a fault between declarations. No module of an input lacks its parent: see Parents
 abbrev pub kind_of : EnvFaultKind → InputKind
 kind_of env.DuplicateModule = kind.DuplicateModule
 kind_of env.ParentMissing = kind.WrongForm

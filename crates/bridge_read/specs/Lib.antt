@@ -2,6 +2,7 @@ pub mod Form
 pub mod Inputs
 pub mod Keys
 pub mod Known
+pub mod Parents
 pub mod Places
 pub mod Pointers
 pub mod Reading

@@ -1,14 +1,18 @@
 //! The whole input: declarations, a backend, a configuration, and where documentation lies.
 
 ghost use Rattle.std.specs.Prelude.{◌≡◌, Err, IfErr, IfOk, length};
+ghost use Rattle.std.specs.List.{All};
 ghost use Rattle.serde_json.specs.Data.{Data};
 ghost use Rattle.lent_json.specs.Read.{data_at};
+ghost use Rattle.bridge_ast.specs.EnvFaults.{faults_of};
+ghost use Rattle.bridge_read.specs.declared.input.Declared.{Declared as Spelled};
 ghost use Rattle.bridge_read.specs.declared.input.Input.{Input as Given};
 ghost use Rattle.bridge_read.specs.declared.input.InputFault.TheVariants.{NoMemory as no_memory};
 ghost use Rattle.bridge_read.specs.Inputs.{GivesEnv, GivesForm, IsJsonOf, IsNoJson, IsReadAs, IsToldOf, SpellsInput, Tells, fault_of, kind_of};
+ghost use Rattle.bridge_read.specs.Parents.{LacksParent};
 ghost use Rattle.bridge_read.specs.Pointers.{module_pointers};
 ghost use Rattle.bridge_read.specs.Reading.{here};
-ghost use Rattle.bridge_read.specs.forms.Inputs.{no_backend};
+ghost use Rattle.bridge_read.specs.forms.Inputs.{no_backend, whole};
 
 use crate::fault::{InputKind, ReadFault};
 use crate::keys::Key;
@@ -205,6 +209,8 @@ pub fn read_input(alloc: Global, bytes: &[u8]) -> Result<Input, InputFault>
     // Each module has its pointer, so that the place of a fault is never one that is made up.
     ensures placed { (input : Given) (value : Data) → SpellsInput bytes.now input → IsJsonOf bytes.now value
         → length input.env ≡ length (module_pointers value) }
+    // Each module that a value declares stands after the one that it is in, so `wrong form` is never told of a missing parent.
+    ensures parents { (value : Data) (declared : Spelled) → whole.Spells value declared → All (λ fault. ¬ LacksParent fault) (faults_of declared.modules) }
     // No bytes spell two inputs.
     ensures once { (one other : Given) → SpellsInput bytes.now one → SpellsInput bytes.now other → one ≡ other }
 {

@@ -1,6 +1,7 @@
 use Rattle.std.proofs.lemmas.Result.{err_from_is_err_and}
 use Rattle.lent_json.specs.Read.{data_at}
 use Rattle.bridge_read.proofs.InputLaws.{has_pointers, spelled_once, form_only, form_is_told, env_only, env_is_told, read_spelled, read_only}
+use Rattle.bridge_read.proofs.ParentLemmas.{none_lacks_its_parent}
 use Rattle.bridge_read.proofs.input.read_input.Goals as goal
 
 pub returns-in_err-document-clause-once : goal.returns-in_err-document-clause-once
@@ -54,3 +55,15 @@ returns-in_err-env-clause-placed c = has_pointers c.args.bytes.now
 
 pub returns-clause-placed : goal.returns-clause-placed
 returns-clause-placed c = has_pointers c.args.bytes.now
+
+pub returns-in_err-document-clause-parents : goal.returns-in_err-document-clause-parents
+returns-in_err-document-clause-parents c = none_lacks_its_parent
+
+pub returns-in_err-declared-clause-parents : goal.returns-in_err-declared-clause-parents
+returns-in_err-declared-clause-parents c = none_lacks_its_parent
+
+pub returns-in_err-env-clause-parents : goal.returns-in_err-env-clause-parents
+returns-in_err-env-clause-parents c = none_lacks_its_parent
+
+pub returns-clause-parents : goal.returns-clause-parents
+returns-clause-parents c = none_lacks_its_parent
