@@ -2,7 +2,6 @@
 //! and a fault stays until the end.
 
 ghost use Rattle.std.specs.Prelude.{◌≡◌, ◌+◌, ◌≤◌, ◌++◌, [], IsNone, length, codes, decimal};
-ghost use Rattle.std.specs.List.{join_by};
 ghost use Rattle.bridge_tool.specs.Printing.{Prints, Delivers, IsEndOf, begins, separator_at};
 
 use crate::sink::{Sink, SinkFault};
@@ -177,25 +176,6 @@ pub fn put_separator<K: Sink>(sink: &mut K, out: &mut Printer, separator: &str, 
 {
     if place > 0 {
         put_text(sink, out, separator);
-    }
-}
-
-// Prints the number at a place of a list.
-fn put_number_at<K: Sink>(sink: &mut K, out: &mut Printer, separator: &str, place: usize, n: usize)
-    ensures { Prints K.taken K.faults sink.old out.old sink.new out.new
-        (separator_at separator.now place ++ decimal n) }
-{
-    put_separator(sink, out, separator, place);
-    put_number(sink, out, n);
-}
-
-/// Prints numbers in decimal, with a separator between each two.
-pub fn put_numbers<K: Sink>(sink: &mut K, out: &mut Printer, separator: &str, numbers: &[usize])
-    ensures { Prints K.taken K.faults sink.old out.old sink.new out.new
-        (join_by decimal separator.now numbers.now) }
-{
-    for (place, n) in numbers.iter().enumerate() {
-        put_number_at(sink, out, separator, place, *n);
     }
 }
 

@@ -1,8 +1,0 @@
-use Rattle.std.proofs.Common.{take}
-use Rattle.std.specs.List.{join_by}
-use Rattle.std.specs.Prelude.{decimal}
-use Rattle.bridge_tool.specs.Printing.{Prints}
-use Rattle.bridge_tool.proofs.printer.put_numbers.Given as goal
-
-abbrev pub invariant-loop-place : goal.invariant-loop-place
-invariant-loop-place g l = Prints g.K.Sink.taken g.K.Sink.faults l.fn.sink l.fn.out l.sink l.out (join_by decimal l.separator (take l.place l.numbers))
