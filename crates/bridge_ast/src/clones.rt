@@ -45,6 +45,3 @@ pub fn clone_texts(alloc: Global, texts: &Items<Text>) -> Result<Items<Text>, No
 {
     clone_items(alloc, texts, Text::try_clone)
 }
-
-#[cfg(test)]
-mod tests;

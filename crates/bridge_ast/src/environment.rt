@@ -9,6 +9,7 @@ mod fault;
 mod items;
 mod names;
 mod nodes;
+mod plain;
 mod resolution;
 mod scopes;
 mod walk;
@@ -16,6 +17,7 @@ mod walk;
 use crate::modules::Module;
 use alias_ends::ends_of;
 pub use fault::{EnvFault, EnvFaultKind, EnvPart, EnvPlace};
+pub use plain::item_named;
 pub use resolution::{CustomType, TraitAt};
 use scopes::{Scope, scopes_of};
 use sqlite_items::Items;
@@ -93,6 +95,3 @@ impl Env {
         self.modules.as_slice()
     }
 }
-
-#[cfg(test)]
-mod tests;

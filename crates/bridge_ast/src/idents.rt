@@ -202,6 +202,3 @@ pub fn is_ident(s: &str) -> bool
         None => is_plain(s),
     }
 }
-
-#[cfg(test)]
-mod tests;

@@ -168,6 +168,3 @@ fn fill(alloc: Global, pattern: &str, name: &str) -> Result<Text, NoMemory>
         None => Text::new(alloc, pattern),
     }
 }
-
-#[cfg(test)]
-mod tests;

@@ -112,6 +112,3 @@ impl fmt::Display for Text {
         f.write_str(self.as_str())
     }
 }
-
-#[cfg(test)]
-mod tests;

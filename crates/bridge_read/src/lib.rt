@@ -17,7 +17,5 @@ pub mod places;
 pub mod pointer;
 pub mod reading;
 pub mod settings;
-#[cfg(test)]
-mod tests;
 pub mod types;
 pub mod words;

@@ -1,0 +1,5 @@
+mod clones;
+mod environment;
+mod idents;
+mod rename;
+mod text;

@@ -1,0 +1,6 @@
+mod chains;
+mod compared;
+mod declared;
+mod lifetimes;
+mod names;
+mod paths;

@@ -1,0 +1,183 @@
+//! Paths whose items are known from the definition, and are compared with what the environment and the plain search find.
+
+ghost use Rattle.std.specs.Prelude.{◌<◌, length};
+
+use super::chains::chain;
+use super::declared::{Declared, modules, path_of, type_place};
+use bridge_ast::environment::{Env, item_named};
+use bridge_ast::paths::PathType;
+use std::alloc::Global;
+use std::test::Fail;
+
+/// A path by the module in which it is read, and the number of the module and of the item that it names.
+type Row = (usize, &'static [&'static str], Option<(usize, usize)>);
+
+const DECLARED: [Declared; 3] = [
+    (
+        &[],
+        &["R", "T", "O"],
+        &[
+            ("in", &["m"]),
+            ("again", &["in"]),
+            ("item", &["R"]),
+            ("one", &["one"]),
+            ("two", &["owt"]),
+            ("owt", &["two"]),
+            ("x", &["y"]),
+            ("y", &["z"]),
+            ("z", &["x"]),
+            ("k", &["m", "k"]),
+            ("nothing", &[]),
+        ],
+    ),
+    (
+        &["m"],
+        &["X", "k"],
+        &[
+            ("up", &["super"]),
+            ("top", &["super", "super", "R"]),
+            ("root", &["crate", "R"]),
+            ("here", &["self", "X"]),
+        ],
+    ),
+    (&["m", "n"], &["Y"], &[]),
+];
+
+const PATHS: [Row; 38] = [
+    (0, &[], None),
+    (0, &["R"], Some((0, 0))),
+    (0, &["T"], Some((0, 1))),
+    (0, &["O"], Some((0, 2))),
+    (0, &["m", "n", "Y"], Some((2, 0))),
+    // aliases into modules and of aliases
+    (0, &["in"], None),
+    (0, &["in", "X"], Some((1, 0))),
+    (0, &["again", "X"], Some((1, 0))),
+    (0, &["again", "n", "Y"], Some((2, 0))),
+    // cycles of one, two and three
+    (0, &["one"], None),
+    (0, &["one", "R"], None),
+    (0, &["two"], None),
+    (0, &["owt", "R"], None),
+    (0, &["x"], None),
+    (0, &["y", "R"], None),
+    // `super`, also above the root
+    (2, &["super", "super", "R"], Some((0, 0))),
+    (2, &["super", "super", "super", "R"], None),
+    (0, &["super", "R"], None),
+    (0, &["m", "up", "R"], Some((0, 0))),
+    (0, &["m", "up", "super", "R"], None),
+    (1, &["top"], None),
+    (0, &["crate", "super", "R"], None),
+    // `crate` and `self`, also in the middle
+    (2, &["crate", "R"], Some((0, 0))),
+    (1, &["self", "X"], Some((1, 0))),
+    (1, &["root"], Some((0, 0))),
+    (0, &["m", "here"], Some((1, 0))),
+    (0, &["m", "crate", "R"], None),
+    (0, &["m", "self", "X"], None),
+    (0, &["crate", "crate", "R"], None),
+    (0, &["self", "self", "R"], None),
+    // items that aren't the last segment
+    (0, &["R", "X"], None),
+    (0, &["item", "X"], None),
+    (0, &["item"], Some((0, 0))),
+    // an alias with the name of a segment of its target
+    (0, &["k"], Some((1, 1))),
+    // an alias whose target is empty
+    (0, &["nothing"], None),
+    (0, &["nothing", "R"], Some((0, 0))),
+    (0, &["nothing", "self", "R"], Some((0, 0))),
+    (1, &["super", "nothing", "m", "X"], Some((1, 0))),
+];
+
+/// `d3` takes seven alias steps: its own, those of two `d2`, and those of four `d1`.
+const DOUBLED: [Declared; 1] = [(
+    &[],
+    &["R"],
+    &[
+        ("d1", &["crate"]),
+        ("d2", &["d1", "d1"]),
+        ("d3", &["d2", "d2"]),
+        ("more", &[]),
+    ],
+)];
+
+const DOUBLED_PATHS: [Row; 4] = [
+    // one more than four aliases and two segments
+    (0, &["d3", "R"], None),
+    // as many as four aliases and three segments
+    (0, &["self", "d3", "R"], Some((0, 0))),
+    // eight, where four aliases and three segments allow seven, and eight with one segment more
+    (0, &["d3", "d1", "R"], None),
+    (0, &["self", "d3", "d1", "R"], Some((0, 0))),
+];
+
+/// The place of the type or trait that a path names.
+fn place_of(env: &Env, in_module: usize, path: &PathType) -> Option<(usize, usize)>
+    requires { in_module < length env.now }
+{
+    match env.resolve_trait(in_module, path) {
+        Some(found) => Some((found.place.module, found.place.item)),
+        None => type_place(env.resolve(in_module, path)),
+    }
+}
+
+/// The place of the item that a path names, found plainly.
+fn plain_place(
+    alloc: Global,
+    env: &Env,
+    in_module: usize,
+    path: &PathType,
+) -> Result<Option<(usize, usize)>, Fail> {
+    let segments = path.segments.as_slice();
+    let mut most = segments.len();
+    for module in env.modules() {
+        most = most
+            .checked_add(module.aliases.len())
+            .ok_or("too many aliases")?;
+    }
+    let found = item_named(alloc, env.modules(), in_module, segments, most)?;
+    Ok(found.map(|place| (place.module, place.item)))
+}
+
+#[test]
+fn paths_and_the_plain_search(rt: HostRuntime) -> Result<(), Fail> {
+    for (declared, rows) in [
+        (DECLARED.as_slice(), PATHS.as_slice()),
+        (DOUBLED.as_slice(), DOUBLED_PATHS.as_slice()),
+    ] {
+        let env = Env::new(rt.alloc(), modules(rt.alloc(), declared)?)?;
+        for (row, (in_module, segments, expected)) in rows.iter().enumerate() {
+            assert!(rt; *in_module < env.modules().len());
+            let path = path_of(rt.alloc(), segments)?;
+            assert_eq!(rt;
+                place_of(&env, *in_module, &path),
+                *expected,
+                "in row {row}"
+            );
+            assert_eq!(rt;
+                plain_place(rt.alloc(), &env, *in_module, &path)?,
+                *expected,
+                "plainly, in row {row}"
+            );
+        }
+    }
+    Ok(())
+}
+
+#[test]
+fn chains_and_the_plain_search(rt: HostRuntime) -> Result<(), Fail> {
+    for (end, expected) in [("R", Some((0, 0))), ("a0", None), ("Q", None)] {
+        let env = Env::new(rt.alloc(), chain(rt.alloc(), 1000, &[], end)?)?;
+        assert!(rt; !env.modules().is_empty());
+        let path = path_of(rt.alloc(), &["a0"])?;
+        assert_eq!(rt; place_of(&env, 0, &path), expected, "with the end {end}");
+        assert_eq!(rt;
+            plain_place(rt.alloc(), &env, 0, &path)?,
+            expected,
+            "plainly, with the end {end}"
+        );
+    }
+    Ok(())
+}

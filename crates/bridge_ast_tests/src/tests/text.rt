@@ -1,0 +1,80 @@
+ghost use Rattle.std.specs.Prelude.{◌≡◌, ◌↔◌, IsTrue, Some, is_some, option_copied, IfOk, OnOk};
+ghost use Rattle.std.specs.BTreeMap.{get};
+ghost use Rattle.std.specs.Cmp.Lexicographic.{slice_cmp};
+ghost use Rattle.std.specs.Ordering.{nat_cmp};
+
+use bridge_ast::text::{NoMemory, Text};
+use std::cmp::Ordering;
+use std::collections::BTreeMap;
+
+fn are_same(first: &Text, second: &Text) -> bool
+    ensures { IsTrue result ↔ (first.now ≡ second.now) }
+{
+    first == second
+}
+
+// A map with texts as keys remembers the place of a text.
+fn remember(
+    places: &mut BTreeMap<Text, usize>,
+    text: Text,
+    place: usize,
+) -> Result<Option<usize>, NoMemory>
+    ensures before { IfOk result (λ old. old ≡ get (slice_cmp nat_cmp) places.old text) }
+    ensures after { OnOk result (get (slice_cmp nat_cmp) places.new text ≡ Some place) }
+{
+    Ok(places.insert(text, place)?)
+}
+
+fn place_of(places: &BTreeMap<Text, usize>, text: &Text) -> Option<usize>
+    ensures { result ≡ get (slice_cmp nat_cmp) places.now text.now }
+{
+    places.get(text).copied()
+}
+
+fn is_known(places: &BTreeMap<Text, usize>, text: &Text) -> bool
+    ensures { result ≡ is_some (get (slice_cmp nat_cmp) places.now text.now) }
+{
+    places.contains_key(text)
+}
+
+#[test]
+fn texts_are_keys(rt: HostRuntime) -> Result<(), NoMemory> {
+    let mut places = BTreeMap::new(rt.alloc());
+    for (place, name) in ["b", "ab", "", "a"].iter().enumerate() {
+        let old = remember(&mut places, Text::new(rt.alloc(), name)?, place)?;
+        assert_eq!(rt; old, None);
+    }
+    let ab = Text::new(rt.alloc(), "ab")?;
+    let abc = Text::new(rt.alloc(), "abc")?;
+    assert_eq!(rt; place_of(&places, &ab), Some(1));
+    assert_eq!(rt; place_of(&places, &abc), None);
+    assert!(rt; is_known(&places, &ab));
+    assert!(rt; !is_known(&places, &abc));
+    let old = remember(&mut places, ab.try_clone(rt.alloc())?, 9)?;
+    assert_eq!(rt; old, Some(1));
+    assert_eq!(rt; place_of(&places, &ab), Some(9));
+    Ok(())
+}
+
+#[test]
+fn texts_compare_by_bytes(rt: HostRuntime) -> Result<(), NoMemory> {
+    let cases = [
+        ("", "", Ordering::Equal),
+        ("", "a", Ordering::Less),
+        ("b", "ab", Ordering::Greater),
+        ("ab", "abc", Ordering::Less),
+        ("Z", "a", Ordering::Less),
+        ("é", "z", Ordering::Greater),
+    ];
+    for (first, second, order) in cases {
+        let first = Text::new(rt.alloc(), first)?;
+        let second = Text::new(rt.alloc(), second)?;
+        assert_eq!(rt; first.cmp(&second), order);
+        assert_eq!(rt; first == second, order.is_eq());
+        assert_eq!(rt; first < second, order.is_lt());
+    }
+    let text = Text::new(rt.alloc(), "na\u{ef}ve")?;
+    assert_eq!(rt; text.try_clone(rt.alloc())?.as_str(), "naïve");
+    assert_eq!(rt; text.to_string(rt.alloc())?.as_str(), "naïve");
+    Ok(())
+}
