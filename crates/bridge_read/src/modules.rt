@@ -1,6 +1,6 @@
 //! Modules, which nest, as one list.
 
-ghost use Rattle.std.specs.Prelude.{◌≡◌, [], ◌∷◌, ◌++◌, IfOk, OnOk};
+ghost use Rattle.std.specs.Prelude.{◌≡◌, ◌+◌, [], ◌∷◌, ◌++◌, length, IfOk, OnOk};
 ghost use Rattle.lent_json.specs.Read.{data_at};
 ghost use Rattle.bridge_read.specs.Form.{object_with, read_alone};
 ghost use Rattle.bridge_read.specs.Reading.{Gives, held};
@@ -16,7 +16,7 @@ use bridge_ast::attrs::Attrs;
 use bridge_ast::modules::{Alias, Item, Module};
 use bridge_ast::text::{NoMemory, Text};
 use lent_json::value::Json;
-use std::alloc::Global;
+use std::alloc::{AllocError, Global};
 use std::marker::Model;
 
 #[tactic(auto, unfolding(crate::specs::forms::Modules::alias))]
@@ -83,15 +83,39 @@ fn name_of<'a>(value: &Json<'_, 'a>) -> &'a str
     }
 }
 
+/// How many bytes the paths of all modules may take together: each keeps the names of all modules around it, so that a
+/// short input could ask for more memory than any machine has.
+const PATHS_MOST: usize = 1 << 31;
+
+/// How many bytes a name takes in a path besides its own.
+const NAME_PLACE: usize = 24;
+
+/// Takes the room of a name in a path; want of memory where there is less.
+fn take_room(room: &mut usize, name: &str) -> Result<(), NoMemory>
+    ensures { OnOk result (room.new + (length name.now + NAME_PLACE) ≡ room.old) }
+{
+    let bytes = name.len().checked_add(NAME_PLACE).ok_or(AllocError)?;
+    *room = room.checked_sub(bytes).ok_or(AllocError)?;
+    Ok(())
+}
+
 /// The path of a module in the module of that path.
-fn path_in(alloc: Global, parent: &[Text], value: &Json<'_, '_>) -> Result<Items<Text>, NoMemory>
+fn path_in(
+    alloc: Global,
+    room: &mut usize,
+    parent: &[Text],
+    value: &Json<'_, '_>,
+) -> Result<Items<Text>, NoMemory>
     ensures { IfOk result (λ path. path ≡ path_in parent.now (data_at value.now)) }
 {
     let mut path = Items::new(alloc);
     for segment in parent {
+        take_room(room, segment.as_str())?;
         path.push(segment.try_clone(alloc)?)?;
     }
-    path.push(Text::new(alloc, name_of(value))?)?;
+    let name = name_of(value);
+    take_room(room, name)?;
+    path.push(Text::new(alloc, name)?)?;
     Ok(path)
 }
 
@@ -171,6 +195,7 @@ fn module_of(
 #[cycle(modules)]
 fn inner_modules(
     alloc: Global,
+    room: &mut usize,
     value: &Json<'_, '_>,
     path: &[Text],
     levels: usize,
@@ -180,7 +205,7 @@ fn inner_modules(
     let mut modules = ModuleList::new(alloc);
     let entries = entries(alloc, value)?;
     for (number, entry) in entries.iter().enumerate() {
-        let inner = in_entry(number, module_within(alloc, entry, path, levels))?;
+        let inner = in_entry(number, module_within(alloc, room, entry, path, levels))?;
         modules.append(inner)?;
     }
     Ok(modules)
@@ -190,6 +215,7 @@ fn inner_modules(
 #[cycle(modules)]
 fn nested_modules(
     alloc: Global,
+    room: &mut usize,
     value: &Json<'_, '_>,
     path: &[Text],
     levels: usize,
@@ -200,7 +226,7 @@ fn nested_modules(
         Some(found) => in_member(
             alloc,
             Key::Modules,
-            inner_modules(alloc, &found, path, levels),
+            inner_modules(alloc, room, &found, path, levels),
         ),
         None => Ok(ModuleList::new(alloc)),
     }
@@ -211,6 +237,7 @@ fn nested_modules(
 #[tactic(auto, unfolding(crate::specs::forms::Modules::contents))]
 fn module_object(
     alloc: Global,
+    room: &mut usize,
     value: &Json<'_, '_>,
     parent: &[Text],
     levels: usize,
@@ -230,8 +257,8 @@ fn module_object(
     )?;
     needed::<()>(alloc, value, Key::Name)?;
     let contents = contents_in(alloc, value)?;
-    let path = path_in(alloc, parent, value)?;
-    let nested = nested_modules(alloc, value, path.as_slice(), levels)?;
+    let path = path_in(alloc, room, parent, value)?;
+    let nested = nested_modules(alloc, room, value, path.as_slice(), levels)?;
     Ok(module_of(alloc, path, contents, nested)?)
 }
 
@@ -239,6 +266,7 @@ fn module_object(
 #[cycle(modules)]
 fn module_within(
     alloc: Global,
+    room: &mut usize,
     value: &Json<'_, '_>,
     parent: &[Text],
     levels: usize,
@@ -246,7 +274,7 @@ fn module_within(
     ensures { Gives result ((module_within levels parent.now).read (data_at value.now)) }
 {
     match levels.checked_sub(1) {
-        Some(inner) => module_object(alloc, value, parent, inner),
+        Some(inner) => module_object(alloc, room, value, parent, inner),
         None => Err(ReadFault::Bad(Fault::here(alloc, InputKind::WrongForm))),
     }
 }
@@ -262,7 +290,8 @@ fn root(alloc: Global, value: &Json<'_, '_>) -> Result<ModuleList, ReadFault>
         &[Key::Attrs, Key::Items, Key::Aliases, Key::Modules],
     )?;
     let contents = contents_in(alloc, value)?;
-    let nested = nested_modules(alloc, value, &[], 64)?;
+    let mut room = PATHS_MOST;
+    let nested = nested_modules(alloc, &mut room, value, &[], 64)?;
     Ok(module_of(alloc, Items::new(alloc), contents, nested)?)
 }
 
