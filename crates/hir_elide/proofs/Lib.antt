@@ -1,0 +1,5 @@
+pub mod GenericLemmas
+pub mod IndexLemmas
+pub mod NumberingLemmas
+pub mod OccurrenceLemmas
+pub mod PlaceLemmas

@@ -1,0 +1,8 @@
+use Rattle.std.proofs.Common.{◌≡◌, drop, map}
+use Rattle.bridge_ast.specs.Environments.{lifetime_names}
+use Rattle.hir_elide.specs.Index.{number_of}
+use Rattle.hir_elide.proofs.PlaceLemmas.{shifted}
+use Rattle.hir_elide.proofs.definition.place_of.Given as goal
+
+abbrev pub invariant-loop-place : goal.invariant-loop-place
+invariant-loop-place l = number_of (lifetime_names l.env) l.name ≡ shifted l.place (number_of (map (λ node. node.name) (drop l.place l.node-items)) l.name)

@@ -1,0 +1,86 @@
+//! The lifetimes of a definition's fields.
+
+ghost use Rattle.std.specs.Prelude.{◌≡◌, ◌≤◌, IfOk, length};
+ghost use Rattle.bridge_ast.specs.Environments.{IsSoundEnvironment, lifetime_names};
+ghost use Rattle.hir_elide.specs.Index.{number_of};
+ghost use Rattle.hir_elide.specs.Phases.{Defining};
+ghost use Rattle.hir_elide.specs.Signature.{begun};
+
+use crate::fault::ElideFault;
+use crate::generics::lower_each;
+use crate::lowerer::{LifetimeLowerer, LowerLifetime};
+use crate::numbering::within_most;
+use bridge_ast::lifetimes::{Lifetime as Written, LifetimeEnv};
+use bridge_ast::text::Text;
+use hir_life::{Lifetime, Lifetimes, MaybeStatic};
+use std::alloc::Global;
+
+/// The place of a declared name.
+fn place_of(env: &LifetimeEnv, name: &Text) -> Option<usize>
+    ensures { result ≡ number_of (lifetime_names env.now) name.now }
+{
+    for (place, node) in env.nodes.as_slice().iter().enumerate() {
+        if node.name == *name {
+            return Some(place);
+        }
+    }
+    None
+}
+
+/// A definition, whose fields name all their lifetimes.
+#[derive(Drop)]
+pub struct DefinitionLowerer<'a> {
+    env: &'a LifetimeEnv,
+}
+
+impl<'a> DefinitionLowerer<'a> {
+    ghost use Rattle.hir_elide.specs.Standing.{InDefinition};
+
+    /// The definition that declares these lifetimes. No memory is taken, so a name is looked for among at most 4,095.
+    pub fn new(env: &'a LifetimeEnv) -> DefinitionLowerer<'a>
+        requires { IsSoundEnvironment env.now }
+        ensures { InDefinition result (begun env.entry.now) }
+    {
+        DefinitionLowerer { env }
+    }
+}
+
+impl LowerLifetime for DefinitionLowerer<'_> {
+    ghost use Rattle.hir_elide.specs.Standing.{InDefinition};
+
+    ghost stands = { λ it s. InDefinition it s };
+
+    ghost phase = { Defining };
+
+    fn lower_lifetime(&mut self, lifetime: &Written) -> Result<MaybeStatic<Lifetime>, ElideFault> {
+        match lifetime {
+            Written::Static => Ok(MaybeStatic::Static),
+            Written::Named(name) => match place_of(self.env, name) {
+                Some(place) => within_most(place),
+                None => Err(ElideFault::LifetimeUnknown),
+            },
+            Written::Anonymous => Err(ElideFault::AnonymousInDefinition),
+        }
+    }
+}
+
+impl LifetimeLowerer for DefinitionLowerer<'_> {
+    fn lower_lifetimes(
+        &mut self,
+        alloc: Global,
+        lifetimes: &[Written],
+        type_generics: &LifetimeEnv,
+    ) -> Result<Lifetimes, ElideFault> {
+        lower_each(alloc, self, lifetimes, type_generics.nodes.len())
+    }
+
+    fn lower_generics(
+        &mut self,
+        alloc: Global,
+        lifetimes: &[Written],
+        type_generics: &LifetimeEnv,
+        _is_self: bool,
+    ) -> Result<Lifetimes, ElideFault> {
+        self.lower_lifetimes(alloc, lifetimes, type_generics)
+    }
+}

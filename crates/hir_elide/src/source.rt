@@ -1,0 +1,54 @@
+//! What a lifetime stands for that a return leaves out.
+
+ghost use Rattle.std.specs.Prelude.{◌≡◌, List, ℕ, [], ◌∷◌, ◌++◌};
+ghost use Rattle.hir_elide.specs.Elision.{chosen, elided_from};
+ghost use Rattle.hir_life.specs.declared.maybe_static.MaybeStatic.{MaybeStatic as Written};
+
+use crate::fault::ElideFault;
+use hir_life::{Lifetime, MaybeStatic};
+
+/// What is known of the source of elision, as far as a signature was gone through.
+#[derive(Clone, Copy)]
+pub enum ElisionSource {
+    /// There is no borrowed receiver, and no parameter with a lifetime.
+    NoBorrows,
+    /// The receiver's borrow.
+    SelfParam(MaybeStatic<Lifetime>),
+    /// The only lifetime of the parameters.
+    OneParam(MaybeStatic<Lifetime>),
+    /// There is no borrowed receiver, and the parameters have several lifetimes.
+    MultipleBorrows,
+}
+
+impl ElisionSource {
+    /// The source where the receiver has that borrow.
+    pub fn of_receiver(borrow: &MaybeStatic<Lifetime>) -> ElisionSource
+        ensures { result ≡ chosen (borrow.now ∷ []) [] }
+    {
+        ElisionSource::SelfParam(*borrow)
+    }
+
+    /// The source with one more lifetime in the parameters.
+    pub fn with(&self, lifetime: &MaybeStatic<Lifetime>) -> ElisionSource
+        ensures { (borrows counting : List (Written ℕ)) → self.now ≡ chosen borrows counting
+            → result ≡ chosen borrows (counting ++ lifetime.now ∷ []) }
+    {
+        match self {
+            ElisionSource::NoBorrows => ElisionSource::OneParam(*lifetime),
+            ElisionSource::SelfParam(borrow) => ElisionSource::SelfParam(*borrow),
+            ElisionSource::OneParam(_) => ElisionSource::MultipleBorrows,
+            ElisionSource::MultipleBorrows => ElisionSource::MultipleBorrows,
+        }
+    }
+
+    /// The lifetime that one stands for which is left out.
+    pub fn elided(&self) -> Result<MaybeStatic<Lifetime>, ElideFault>
+        ensures { result ≡ elided_from self.now }
+    {
+        match self {
+            ElisionSource::SelfParam(lifetime) | ElisionSource::OneParam(lifetime) => Ok(*lifetime),
+            ElisionSource::NoBorrows => Err(ElideFault::ElisionNoSource),
+            ElisionSource::MultipleBorrows => Err(ElideFault::ElisionAmbiguous),
+        }
+    }
+}
