@@ -1,7 +1,6 @@
 -- A name more at the end of a list of names.
-use Rattle.std.proofs.Common.{◌≡◌, ℕ, suc, ◌+◌, ◌<◌, Bool, true, false, cond, List, [], ◌∷◌, ◌++◌, length, map, take, get_or, Option, Some, None, length-take, refl, sym, ap, ◌∙◌, arith, subst}
+use Rattle.std.proofs.Common.{◌≡◌, ℕ, suc, Bool, true, false, cond, List, [], ◌∷◌, ◌++◌, length, Option, Some, None, refl, sym, ap, ◌∙◌, subst}
 use Rattle.std.specs.Prelude.{option_map, is_some}
-use Rattle.std.proofs.lemmas.List.{map_more, length-map}
 use Rattle.std.specs.Str.{bytes_eq}
 use Rattle.std.specs.Ordering.{nat_cmp, is_eq}
 use Rattle.std.specs.Cmp.Lexicographic.{slice_cmp}
@@ -71,11 +70,3 @@ indexes_one_more old new names key name place same absent indexed at_end updates
       ∙ sym (new_at names name q (bytes_eq name q) refl (ap is_some (sym (indexed.finds name)) ∙ absent))
       ∙ sym (push_at names name q);
 }
-
-module _ {X : Type 0} (name_of : X → List ℕ) (xs : List X) (i : ℕ) (x : X) where
-  -- the names up to x
-  pub up_to : i < length xs → x ≡ get_or xs i x → map name_of (take (i + 1) xs) ≡ map name_of (take i xs) ++ name_of x ∷ []
-  up_to within is = map_more name_of xs i x within ∙ ap (λ y. map name_of (take i xs) ++ name_of y ∷ []) (sym is)
-
-  pub at_place : i < length xs → i ≡ length (map name_of (take i xs))
-  at_place within = omega (arith, length-map (take i xs) name_of, length-take i xs)

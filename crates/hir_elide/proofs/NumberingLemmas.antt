@@ -10,8 +10,9 @@ use Rattle.bridge_ast.specs.Environments.{IsSoundEnvironment, declared_longer, d
 use Rattle.hir_elide.specs.declared.numbering.Numbering.{Numbering}
 use Rattle.hir_elide.specs.declared.params.ParamLifetimeLowerer.{ParamLifetimeLowerer}
 use Rattle.hir_elide.specs.declared.returns.ReturnLifetimeLowerer.{ReturnLifetimeLowerer}
-use Rattle.hir_elide.specs.Elision.{chosen, source_of}
-use Rattle.hir_elide.specs.Generics.{after_each, after_own, lowered_each, met, own_or_new}
+use Rattle.hir_elide.specs.Sources.{chosen, elided_from, source_of}
+use Rattle.hir_elide.specs.Elision.{elided_by}
+use Rattle.hir_elide.specs.Generics.{after_each, after_own, met}
 use Rattle.hir_elide.specs.Numbering.{count_of}
 use Rattle.hir_elide.specs.Occurrences.{Occurrence, Counting, Own, Role, Signature, anonymous_in, borrows, counting, one_if_anonymous}
 use Rattle.hir_elide.specs.Phases.{Using, used}
@@ -63,17 +64,13 @@ numbers_met it s ns numbers = record {
   own = refl;
 }
 
--- they are new where they weren't
-pub first_own : (own : Option (List (MaybeStatic ℕ))) (s : Signature) (ls : List Lifetime) → own ≡ None → own_or_new own s ls ≡ lowered_each (Using Own) s ls
-first_own None s ls h = refl
-first_own (Some own) s ls h = absurd cc
-
-pub after_first : (own : Option (List (MaybeStatic ℕ))) (s : Signature) (ls : List Lifetime) (ns : List (MaybeStatic ℕ)) → own ≡ None
-    → after_own own s ls ns ≡ met (after_each (Using Own) s ls ns) ns
-after_first None s ls ns h = refl
-after_first (Some own) s ls ns h = absurd cc
-
 -- ---- the source of elision
+
+pub elided_chosen : (bs cs : List (MaybeStatic ℕ)) → elided_from (chosen bs cs) ≡ elided_by bs cs
+elided_chosen (b ∷ bs) cs = refl
+elided_chosen [] [] = refl
+elided_chosen [] (c ∷ []) = refl
+elided_chosen [] (c ∷ d ∷ cs) = refl
 
 pub source_counting : (os : List Occurrence) (l : Lifetime) (n : MaybeStatic ℕ)
     → chosen (borrows os) (counting os ++ n ∷ []) ≡ source_of (os ++ record { lifetime = l; role = Counting; number = n } ∷ [])

@@ -34,7 +34,3 @@ past nodes i node name o within is so_far differs =
     so_far ∙ ap (shifted i) (rest_of nodes i node name within is)
     ∙ ap (λ b. shifted i (cond b (Some 0) (option_map suc (number_of (map (λ n. n.name) (drop (i + 1) nodes)) name)))) differs
     ∙ step_past i (number_of (map (λ n. n.name) (drop (i + 1) nodes)) name)
-
-pub begun : (o : Option ℕ) → o ≡ shifted 0 o
-begun None = refl
-begun (Some k) = ap Some (omega arith)

@@ -5,4 +5,5 @@ pub mod Numbering
 pub mod Occurrences
 pub mod Phases
 pub mod Signature
+pub mod Sources
 pub mod Standing

@@ -6,7 +6,7 @@ use Rattle.hir_elide.specs.declared.numbering.Numbering.{Numbering}
 use Rattle.hir_elide.specs.declared.params.ParamLifetimeLowerer.{ParamLifetimeLowerer}
 use Rattle.hir_elide.specs.declared.returns.ReturnLifetimeLowerer.{ReturnLifetimeLowerer}
 use Rattle.hir_elide.specs.declared.self_param.SelfParamLifetimeLowerer.{SelfParamLifetimeLowerer}
-use Rattle.hir_elide.specs.Elision.{source_of}
+use Rattle.hir_elide.specs.Sources.{source_of}
 use Rattle.hir_elide.specs.Index.{Indexes}
 use Rattle.hir_elide.specs.Numbering.{most}
 use Rattle.hir_elide.specs.Occurrences.{Signature}

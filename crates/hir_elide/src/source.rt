@@ -1,7 +1,7 @@
 //! What a lifetime stands for that a return leaves out.
 
 ghost use Rattle.std.specs.Prelude.{◌≡◌, List, ℕ, [], ◌∷◌, ◌++◌};
-ghost use Rattle.hir_elide.specs.Elision.{chosen, elided_from};
+ghost use Rattle.hir_elide.specs.Sources.{chosen, elided_from};
 ghost use Rattle.hir_life.specs.declared.maybe_static.MaybeStatic.{MaybeStatic as Written};
 
 use crate::fault::ElideFault;
