@@ -7,9 +7,9 @@ use Rattle.std.specs.BTreeMap.{BTreeMap, get}
 use Rattle.std.specs.Str.{bytes_eq}
 use Rattle.std.proofs.lemmas.Bool.{cases_lt}
 use Rattle.std.proofs.lemmas.List.{drop_all}
-use Rattle.bridge_ast.specs.declared.modules.Alias.{Alias}
-use Rattle.bridge_ast.specs.declared.modules.Item.{Item}
-use Rattle.bridge_ast.specs.declared.modules.Module.{Module}
+use Rattle.bridge_decl.specs.declared.modules.Alias.{Alias}
+use Rattle.bridge_decl.specs.declared.modules.Item.{Item}
+use Rattle.bridge_decl.specs.declared.modules.Module.{Module}
 use Rattle.bridge_ast.specs.declared.environment.fault.EnvPart.{EnvPart}
 use Rattle.bridge_ast.specs.declared.environment.fault.EnvPart.TheVariants as part
 use Rattle.bridge_ast.specs.declared.environment.walk.Advance.{Advance}
@@ -25,7 +25,7 @@ use Rattle.bridge_ast.specs.AliasEnds.{IsAlias, AreEnds, KnowsEnds, AliasAdvance
 use Rattle.bridge_ast.specs.Pairs.{pair_cmp}
 use Rattle.bridge_ast.specs.Each.{each_after}
 use Rattle.bridge_ast.specs.EnvFaults.{Named, module_at, named_at, part_named, parent_and_last}
-use Rattle.bridge_ast.specs.Names.{item_name}
+use Rattle.bridge_decl.specs.Names.{item_name}
 use Rattle.bridge_ast.specs.Resolution.{path_at, target_at, by_name, to_part, to_submodule, to_module, to_parent, next_of, leads}
 use Rattle.bridge_ast.specs.Resolution.{again_within, item_last}
 use Rattle.bridge_ast.specs.Walks.{after_taking, leads_within, at_end, stands_at, carried_on, carried_to_end, IsInside, IsModule}

@@ -8,7 +8,7 @@ use Rattle.std.proofs.lemmas.List.{take_more, map_more, length-map, get_or_defau
 use Rattle.std.proofs.lemmas.List.{set_past, take_all}
 use Rattle.std.proofs.lemmas.List.Elements.{All-push, All-weaker, Contains-append_left, Contains-push, Contains-push_cases}
 use Rattle.std.proofs.lemmas.List.Sorted.{IsNonDecreasingBy-push}
-use Rattle.bridge_ast.specs.declared.lifetimes.LifetimeNode.{LifetimeNode}
+use Rattle.bridge_decl.specs.declared.lifetimes.LifetimeNode.{LifetimeNode}
 use Rattle.bridge_ast.specs.declared.environment.bounds.Side.{Side}
 use Rattle.bridge_ast.specs.Bounds.{listed}
 use Rattle.bridge_ast.specs.BoundLists.{Ascends, AddsToEach, AreListers}

@@ -6,7 +6,7 @@ use Rattle.std.specs.BTreeMap.{BTreeMap, is_at}
 use Rattle.std.specs.BTreeSet.{BTreeSet, Updates, contains}
 use Rattle.std.specs.List.{list_any}
 use Rattle.std.proofs.lemmas.List.{drop_all, take_all, take_more}
-use Rattle.bridge_ast.specs.declared.modules.Module.{Module}
+use Rattle.bridge_decl.specs.declared.modules.Module.{Module}
 use Rattle.bridge_ast.specs.declared.environment.walk.Advance.TheVariants.{Comes, Waits, Stops}
 use Rattle.bridge_ast.specs.declared.environment.walk.Head.TheVariants.{Start}
 use Rattle.bridge_ast.specs.declared.environment.walk.ItemPlace.{ItemPlace}

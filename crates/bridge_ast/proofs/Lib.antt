@@ -3,7 +3,6 @@ pub mod AnsweredLemmas
 pub mod BoundsLemmas
 pub mod EachLemmas
 pub mod FrameLemmas
-pub mod IdentLemmas
 pub mod IndexLemmas
 pub mod ItemLemmas
 pub mod ModuleLemmas
@@ -13,11 +12,9 @@ pub mod PairLemmas
 pub mod PathLemmas
 pub mod PathNameLemmas
 pub mod PlainLemmas
-pub mod RenameLemmas
 pub mod ScopeLemmas
 pub mod SearchLemmas
 pub mod SoundLemmas
 pub mod StepLemmas
-pub mod TableLemmas
 pub mod TypeNameLemmas
 pub mod WalkLemmas

@@ -3,7 +3,7 @@ use Rattle.std.proofs.Common.{◌≡◌, ℕ, ◌+◌, ◌<◌, List, [], ◌∷
 use Rattle.std.proofs.Common.{arith, subst}
 use Rattle.std.proofs.lemmas.List.{take_more, take_at}
 use Rattle.std.proofs.lemmas.Option.{slice_get_within}
-use Rattle.bridge_ast.specs.declared.modules.Module.{Module}
+use Rattle.bridge_decl.specs.declared.modules.Module.{Module}
 use Rattle.bridge_ast.specs.declared.environment.fault.EnvFault.{EnvFault}
 use Rattle.bridge_ast.specs.declared.environment.scopes.Scope.{Scope}
 use Rattle.bridge_ast.specs.Each.{each}

@@ -4,14 +4,14 @@ use Rattle.std.specs.Prelude.{option_map, option_and_then, slice_get, map}
 use Rattle.std.proofs.lemmas.List.{append-nil}
 use Rattle.std.proofs.lemmas.Option.{slice_get-map, get_or_from_slice_get}
 use Rattle.std.specs.Str.{bytes_eq}
-use Rattle.bridge_ast.specs.declared.modules.Alias.{Alias}
-use Rattle.bridge_ast.specs.declared.modules.Item.{Item}
-use Rattle.bridge_ast.specs.declared.modules.Module.{Module}
+use Rattle.bridge_decl.specs.declared.modules.Alias.{Alias}
+use Rattle.bridge_decl.specs.declared.modules.Item.{Item}
+use Rattle.bridge_decl.specs.declared.modules.Module.{Module}
 use Rattle.bridge_ast.specs.declared.environment.fault.EnvPart.{EnvPart}
 use Rattle.bridge_ast.specs.declared.environment.fault.EnvPart.TheVariants as part
 use Rattle.bridge_ast.specs.Each.{each_after}
 use Rattle.bridge_ast.specs.EnvFaults.{Named, module_at, named_at, named_in, part_named, items_named, aliases_named, parent_and_last}
-use Rattle.bridge_ast.specs.Names.{item_name}
+use Rattle.bridge_decl.specs.Names.{item_name}
 use Rattle.bridge_ast.specs.Paths.{IsSubmodule, HasItem, HasAlias}
 use Rattle.bridge_ast.specs.Resolution.{path_at, target_at}
 use Rattle.bridge_ast.specs.Scopes.{ArePaths}

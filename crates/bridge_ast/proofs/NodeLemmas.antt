@@ -1,7 +1,7 @@
 -- A loop that tests lifetimes.
 use Rattle.std.proofs.Common.{◌≡◌, ℕ, ◌+◌, ◌<◌, List, [], ◌∷◌, ◌++◌, length, take, get_or, sym, subst, Option}
 use Rattle.std.specs.BTreeMap.{BTreeMap}
-use Rattle.bridge_ast.specs.declared.lifetimes.LifetimeNode.{LifetimeNode}
+use Rattle.bridge_decl.specs.declared.lifetimes.LifetimeNode.{LifetimeNode}
 use Rattle.bridge_ast.specs.declared.environment.fault.EnvFault.{EnvFault}
 use Rattle.bridge_ast.specs.declared.environment.fault.EnvFaultKind.TheVariants.{DuplicateLifetime}
 use Rattle.bridge_ast.specs.declared.environment.fault.EnvPart.{EnvPart}

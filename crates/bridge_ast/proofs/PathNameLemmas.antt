@@ -2,7 +2,7 @@
 use Rattle.std.proofs.Common.{◌≡◌, ℕ, zero, suc, ◌+◌, Bool, true, false, cond, List, [], ◌∷◌, ◌++◌, length, Option, Some, None, refl, sym, ap, ◌∙◌, subst, codes, inl, inr, ◌⊎◌, ◌↔◌}
 use Rattle.std.specs.Prelude.{option_and_then, ◌||◌}
 use Rattle.std.specs.Str.{bytes_eq}
-use Rattle.bridge_ast.specs.declared.modules.Module.{Module}
+use Rattle.bridge_decl.specs.declared.modules.Module.{Module}
 use Rattle.bridge_ast.specs.declared.environment.fault.EnvPart.{EnvPart}
 use Rattle.bridge_ast.specs.declared.environment.fault.EnvPart.TheVariants as part
 use Rattle.bridge_ast.specs.declared.environment.walk.Head.{Head}

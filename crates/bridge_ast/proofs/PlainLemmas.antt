@@ -4,9 +4,9 @@ use Rattle.std.proofs.Common.{take, drop, get_or, Option, Some, None, refl, sym,
 use Rattle.std.specs.Prelude.{option_map}
 use Rattle.std.specs.Str.{bytes_eq}
 use Rattle.std.proofs.lemmas.List.{take_more, take_all}
-use Rattle.bridge_ast.specs.declared.modules.Alias.{Alias}
-use Rattle.bridge_ast.specs.declared.modules.Item.{Item}
-use Rattle.bridge_ast.specs.declared.modules.Module.{Module}
+use Rattle.bridge_decl.specs.declared.modules.Alias.{Alias}
+use Rattle.bridge_decl.specs.declared.modules.Item.{Item}
+use Rattle.bridge_decl.specs.declared.modules.Module.{Module}
 use Rattle.bridge_ast.specs.declared.environment.fault.EnvPart.{EnvPart}
 use Rattle.bridge_ast.specs.declared.environment.fault.EnvPart.TheVariants as part
 use Rattle.bridge_ast.specs.declared.environment.walk.Head.{Head}

@@ -9,7 +9,7 @@ use Rattle.std.specs.Map.{lookup}
 use Rattle.std.specs.Ordering.{nat_cmp, is_eq}
 use Rattle.std.proofs.lemmas.Map.Lookups.{exact_pairs, exact_unsigned}
 use Rattle.std.proofs.lemmas.Map.Views.{tells_apart}
-use Rattle.bridge_ast.specs.declared.modules.Module.{Module}
+use Rattle.bridge_decl.specs.declared.modules.Module.{Module}
 use Rattle.bridge_ast.specs.declared.environment.alias_ends.Frame.{Frame}
 use Rattle.bridge_ast.specs.declared.environment.walk.Walk.{Walk}
 use Rattle.bridge_ast.specs.AliasEnds.{IsAlias, IsEnd, LeadsNowhere, KnowsEnds, alias_leads}

@@ -2,10 +2,10 @@
 use Rattle.std.proofs.Common.{◌≡◌, ℕ, Bool, true, false, ◌&&◌, not, List, [], ◌∷◌, ◌++◌, length, Option, Some, None, refl, ap}
 use Rattle.std.proofs.Common.{◌∙◌}
 use Rattle.std.specs.Prelude.{option_map, slice_get}
-use Rattle.bridge_ast.specs.declared.lifetimes.LifetimeNode.{LifetimeNode}
-use Rattle.bridge_ast.specs.declared.modules.Alias.{Alias}
-use Rattle.bridge_ast.specs.declared.modules.Item.{Item}
-use Rattle.bridge_ast.specs.declared.modules.Module.{Module}
+use Rattle.bridge_decl.specs.declared.lifetimes.LifetimeNode.{LifetimeNode}
+use Rattle.bridge_decl.specs.declared.modules.Alias.{Alias}
+use Rattle.bridge_decl.specs.declared.modules.Item.{Item}
+use Rattle.bridge_decl.specs.declared.modules.Module.{Module}
 use Rattle.bridge_ast.specs.declared.environment.bounds.Side.TheVariants.{Longer, Shorter}
 use Rattle.bridge_ast.specs.declared.environment.fault.EnvFault.{EnvFault}
 use Rattle.bridge_ast.specs.declared.environment.fault.EnvFault.TheVariants.{Bad}
@@ -18,7 +18,7 @@ use Rattle.bridge_ast.specs.declared.environment.fault.EnvFaultKind.TheVariants.
 use Rattle.bridge_ast.specs.declared.environment.fault.EnvFaultKind.TheVariants.{DuplicateLifetime, BoundOutOfRange}
 use Rattle.bridge_ast.specs.declared.environment.fault.EnvFaultKind.TheVariants.{BoundOneSided}
 use Rattle.bridge_ast.specs.declared.environment.fault.EnvPart.TheVariants as part
-use Rattle.bridge_ast.specs.Names.{item_name}
+use Rattle.bridge_decl.specs.Names.{item_name}
 use Rattle.bridge_ast.specs.EnvFaults.{IsBad, IsFirst, repeats, repeats_name, where_so, node_faults, lifetime_faults, item_faults}
 use Rattle.bridge_ast.specs.EnvFaults.{alias_faults, method_faults, faults_under, parent_faults, path_faults, content_faults}
 use Rattle.bridge_ast.specs.EnvFaults.{module_faults, faults_of, parent_and_last, module_at, part_named, named_at, nodes_named}

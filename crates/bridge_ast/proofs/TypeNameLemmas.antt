@@ -1,10 +1,10 @@
 -- The types and traits that paths name, case by case.
 use Rattle.std.proofs.Common.{◌≡◌, ℕ, true, List, Option, Some, None, refl, sym, ap, ◌∙◌, subst, ◌↔◌}
 use Rattle.std.specs.Prelude.{option_map, option_and_then}
-use Rattle.bridge_ast.specs.declared.modules.Module.{Module}
-use Rattle.bridge_ast.specs.declared.modules.Item.{Item}
-use Rattle.bridge_ast.specs.declared.modules.Item.TheVariants.{Struct, Opaque, Enum, Trait, Function}
-use Rattle.bridge_ast.specs.declared.traits.Trait.{Trait as TraitDeclaration}
+use Rattle.bridge_decl.specs.declared.modules.Module.{Module}
+use Rattle.bridge_decl.specs.declared.modules.Item.{Item}
+use Rattle.bridge_decl.specs.declared.modules.Item.TheVariants.{Struct, Opaque, Enum, Trait, Function}
+use Rattle.bridge_decl.specs.declared.traits.Trait.{Trait as TraitDeclaration}
 use Rattle.bridge_ast.specs.declared.environment.resolution.CustomType.{CustomType}
 use Rattle.bridge_ast.specs.declared.environment.resolution.TraitAt.{TraitAt}
 use Rattle.bridge_ast.specs.declared.environment.walk.ItemPlace.{ItemPlace}

@@ -1,7 +1,7 @@
 -- The bounds between lifetimes, as the nodes of an environment list them on either side.
 use Rattle.std.specs.Prelude.{ℕ, List, [], map, slice_index_or, length, Bool, ◌||◌, nat_eq, nat_le, nat_lt}
 use Rattle.std.specs.List.{list_any, list_all}
-use Rattle.bridge_ast.specs.declared.lifetimes.LifetimeNode.{LifetimeNode}
+use Rattle.bridge_decl.specs.declared.lifetimes.LifetimeNode.{LifetimeNode}
 use Rattle.bridge_ast.specs.declared.environment.bounds.Side.{Side}
 use Rattle.bridge_ast.specs.declared.environment.bounds.Side.TheVariants.{Longer, Shorter}
 

@@ -1,7 +1,7 @@
 -- What an environment keeps beside its modules.
 use Rattle.std.specs.Prelude.{◌≡◌, ℕ, List}
 use Rattle.std.specs.BTreeMap.{BTreeMap}
-use Rattle.bridge_ast.specs.declared.modules.Module.{Module}
+use Rattle.bridge_decl.specs.declared.modules.Module.{Module}
 use Rattle.bridge_ast.specs.declared.environment.scopes.Scope.{Scope}
 use Rattle.bridge_ast.specs.declared.environment.walk.Walk.{Walk}
 use Rattle.bridge_ast.specs.AliasCount.{alias_count}

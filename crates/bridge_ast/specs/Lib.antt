@@ -5,13 +5,9 @@ pub mod Bounds
 pub mod Each
 pub mod EnvFaults
 pub mod EnvIndex
-pub mod Environments
-pub mod Ident
 pub mod Index
-pub mod Names
 pub mod Pairs
 pub mod Paths
-pub mod Rename
 pub mod Resolution
 pub mod Scopes
 pub mod Searches

@@ -2,14 +2,14 @@
 -- are given by their numbers in the list of all modules, of which 0 is the root's.
 use Rattle.std.specs.Prelude.{◌≡◌, ℕ, suc, ◌+◌, List, [], ◌∷◌, ◌++◌, length, slice_get, Bool, true, false, ◌||◌, codes, Some}
 use Rattle.std.specs.Str.{bytes_eq}
-use Rattle.bridge_ast.specs.declared.modules.Alias.{Alias}
-use Rattle.bridge_ast.specs.declared.modules.Item.{Item}
-use Rattle.bridge_ast.specs.declared.modules.Module.{Module}
+use Rattle.bridge_decl.specs.declared.modules.Alias.{Alias}
+use Rattle.bridge_decl.specs.declared.modules.Item.{Item}
+use Rattle.bridge_decl.specs.declared.modules.Module.{Module}
 use Rattle.bridge_ast.specs.declared.environment.walk.Head.{Head}
 use Rattle.bridge_ast.specs.declared.environment.walk.Head.TheVariants as head
 use Rattle.bridge_ast.specs.declared.environment.walk.ItemPlace.{ItemPlace}
 use Rattle.bridge_ast.specs.AliasCount.{alias_count}
-use Rattle.bridge_ast.specs.Names.{item_name}
+use Rattle.bridge_decl.specs.Names.{item_name}
 
 -- the segments that are no names: `crate`, `self` and `super` at the start of a path, `super` after these, none after a name
 abbrev pub is_reserved : Head → List ℕ → Bool

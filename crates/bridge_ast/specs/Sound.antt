@@ -1,14 +1,14 @@
 -- When modules fit together: what an environment keeps.
 use Rattle.std.specs.Prelude.{◌≡◌, ℕ, List, [], ◌∷◌, ◌++◌, length, Option, Some, None, true, ⊤}
-use Rattle.bridge_ast.specs.declared.lifetimes.LifetimeNode.{LifetimeNode}
-use Rattle.bridge_ast.specs.declared.modules.Alias.{Alias}
-use Rattle.bridge_ast.specs.declared.modules.Item.{Item}
-use Rattle.bridge_ast.specs.declared.modules.Module.{Module}
+use Rattle.bridge_decl.specs.declared.lifetimes.LifetimeNode.{LifetimeNode}
+use Rattle.bridge_decl.specs.declared.modules.Alias.{Alias}
+use Rattle.bridge_decl.specs.declared.modules.Item.{Item}
+use Rattle.bridge_decl.specs.declared.modules.Module.{Module}
 use Rattle.bridge_ast.specs.declared.environment.bounds.Side.TheVariants.{Longer, Shorter}
 use Rattle.bridge_ast.specs.Bounds.{in_range, answered}
 use Rattle.bridge_ast.specs.EnvFaults.{module_at, parent_and_last, named_at, part_named, nodes_named, items_named, aliases_named}
 use Rattle.bridge_ast.specs.EnvFaults.{nodes_of, method_nodes_of}
-use Rattle.bridge_ast.specs.Names.{item_name}
+use Rattle.bridge_decl.specs.Names.{item_name}
 
 -- P holds of each element of a list that goes on after others; it is told the elements that stand before
 abbrev pub AllAfter : {X : Type 0} → (List X → X → Type 0) → List X → List X → Type 0

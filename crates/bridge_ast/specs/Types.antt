@@ -1,9 +1,9 @@
 -- The types and traits that paths name.
 use Rattle.std.specs.Prelude.{◌≡◌, ℕ, List, slice_get, Bool, true, false, Option, Some, None, option_map, option_and_then}
-use Rattle.bridge_ast.specs.declared.modules.Module.{Module}
-use Rattle.bridge_ast.specs.declared.modules.Item.{Item}
-use Rattle.bridge_ast.specs.declared.modules.Item.TheVariants.{Struct, Opaque, Enum, Trait, Function}
-use Rattle.bridge_ast.specs.declared.traits.Trait.{Trait as TraitDeclaration}
+use Rattle.bridge_decl.specs.declared.modules.Module.{Module}
+use Rattle.bridge_decl.specs.declared.modules.Item.{Item}
+use Rattle.bridge_decl.specs.declared.modules.Item.TheVariants.{Struct, Opaque, Enum, Trait, Function}
+use Rattle.bridge_decl.specs.declared.traits.Trait.{Trait as TraitDeclaration}
 use Rattle.bridge_ast.specs.declared.environment.resolution.CustomType.{CustomType}
 use Rattle.bridge_ast.specs.declared.environment.resolution.CustomType.TheVariants as custom
 use Rattle.bridge_ast.specs.declared.environment.resolution.TraitAt.{TraitAt}

@@ -14,8 +14,8 @@ mod resolution;
 mod scopes;
 mod walk;
 
-use crate::modules::Module;
 use alias_ends::ends_of;
+use bridge_decl::Module;
 pub use fault::{EnvFault, EnvFaultKind, EnvPart, EnvPlace};
 pub use plain::item_named;
 pub use resolution::{CustomType, TraitAt};
@@ -37,10 +37,10 @@ pub struct Env {
 
 impl Model for Env {
     ghost use Rattle.std.specs.Prelude.{List};
-    ghost use Rattle.bridge_ast.specs.declared.modules.Module.{Module};
+    ghost use Rattle.bridge_decl.specs.declared.modules.Module.{Module};
     ghost use Rattle.std.specs.Coded.{codes};
-    ghost use Rattle.bridge_ast.specs.contracts.attrs.DiplomatBackendAttrCfg as condition;
-    ghost use Rattle.bridge_ast.specs.contracts.types.TypeName as written_type;
+    ghost use Rattle.bridge_decl.specs.contracts.attrs.DiplomatBackendAttrCfg as condition;
+    ghost use Rattle.bridge_decl.specs.contracts.types.TypeName as written_type;
 
     ghost Value = { List Module };
 

@@ -1,23 +1,19 @@
-//! The declarations of a foreign interface as plain data, and the identifiers that name them.
+//! Modules of declarations whose names and bounds fit together, and what paths name in them.
 //!
-//! One module per subject, named as in the crate `diplomat_core`, whose `ast` layer this restates.
+//! Named as in the crate `diplomat_core`, whose `ast` layer this and `bridge_decl` restate. What `bridge_decl` offers is offered
+//! here too.
 #![tactic(auto)]
 
-pub mod attrs;
-pub mod clones;
-pub mod docs;
-pub mod enums;
-pub mod environment;
-pub mod functions;
-pub mod idents;
-pub mod lifetimes;
-pub mod methods;
-pub mod modules;
-pub mod paths;
-pub mod rename;
-pub mod structs;
-pub mod text;
-pub mod traits;
-pub mod types;
+mod environment;
 
-pub use sqlite_items::{Boxed, Items};
+pub use bridge_decl::{
+    Alias, Assign, AttrInheritContext, Attrs, Boxed, DiplomatBackendAttr, DiplomatBackendAttrCfg,
+    DocBlock, DocType, Docs, Enum, Field, Function, IdentBuf, IdentFault, Item, Items, Lifetime,
+    LifetimeEnv, LifetimeNode, Lit, Meta, MetaValue, Method, Module, Mutability, NoMemory,
+    OpaqueType, Param, PathType, PrimitiveType, RenameAttr, RenameFault, RustLink, RustLinkDisplay,
+    SelfParam, StdlibOrDiplomat, StringEncoding, Struct, Text, Trait, TraitMethod, TraitSelfParam,
+    TypeName, Variant, WriteType, clone_items, clone_option, clone_texts, is_ident,
+};
+pub use environment::{
+    CustomType, Env, EnvFault, EnvFaultKind, EnvPart, EnvPlace, ItemPlace, TraitAt, item_named,
+};

@@ -9,7 +9,7 @@ use Rattle.bridge_ast.specs.declared.environment.fault.EnvFault.TheVariants.{Bad
 use Rattle.bridge_ast.specs.declared.environment.fault.EnvFaultKind.{EnvFaultKind}
 use Rattle.bridge_ast.specs.declared.environment.fault.EnvPlace.{EnvPlace}
 use Rattle.bridge_ast.specs.Sound.{AreSound}
-use Rattle.bridge_ast.specs.declared.modules.Module.{Module}
+use Rattle.bridge_decl.specs.declared.modules.Module.{Module}
 use Rattle.bridge_read.specs.declared.fault.Fault.{Fault}
 use Rattle.bridge_read.specs.declared.input.Declared.{Declared}
 use Rattle.bridge_read.specs.declared.input.Input.{Input}

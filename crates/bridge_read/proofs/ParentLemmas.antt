@@ -6,10 +6,10 @@ use Rattle.std.proofs.lemmas.Bool.{false≢true}
 use Rattle.std.proofs.lemmas.List.{append-nil}
 use Rattle.std.proofs.lemmas.List.Elements.{All-append}
 use Rattle.serde_json.specs.Data.{Data, null, boolean, number, string, array, object, Items, no_items, item}
-use Rattle.bridge_ast.specs.declared.lifetimes.LifetimeNode.{LifetimeNode}
-use Rattle.bridge_ast.specs.declared.modules.Alias.{Alias}
-use Rattle.bridge_ast.specs.declared.modules.Item.{Item}
-use Rattle.bridge_ast.specs.declared.modules.Module.{Module}
+use Rattle.bridge_decl.specs.declared.lifetimes.LifetimeNode.{LifetimeNode}
+use Rattle.bridge_decl.specs.declared.modules.Alias.{Alias}
+use Rattle.bridge_decl.specs.declared.modules.Item.{Item}
+use Rattle.bridge_decl.specs.declared.modules.Module.{Module}
 use Rattle.bridge_ast.specs.declared.environment.bounds.Side.TheVariants.{Longer, Shorter}
 use Rattle.bridge_ast.specs.declared.environment.fault.EnvFault.{EnvFault}
 use Rattle.bridge_ast.specs.declared.environment.fault.EnvFault.TheVariants.{Bad}
@@ -21,7 +21,7 @@ use Rattle.bridge_ast.specs.declared.environment.fault.EnvPlace.{EnvPlace}
 use Rattle.bridge_ast.specs.Bounds.{in_range, answered}
 use Rattle.bridge_ast.specs.Each.{each, each_after}
 use Rattle.bridge_ast.specs.EnvFaults.{Named, aliases_named, items_named, named_at, nodes_named, part_named, path_eq, place, module_at, parent_and_last, where_so, repeats, repeats_name, bound_faults, node_faults, lifetime_faults, method_nodes_of, nodes_of, method_faults, item_faults, alias_faults, faults_under, parent_faults, content_faults, module_faults, faults_of, path_faults}
-use Rattle.bridge_ast.specs.Names.{item_name}
+use Rattle.bridge_decl.specs.Names.{item_name}
 use Rattle.bridge_ast.proofs.PathLemmas.{parent_and_last-snoc, path_itself}
 use Rattle.bridge_read.specs.declared.input.Declared.{Declared}
 use Rattle.bridge_read.specs.declared.keys.Key.TheVariants as key

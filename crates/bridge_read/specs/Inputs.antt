@@ -14,7 +14,7 @@ use Rattle.bridge_read.specs.declared.fault.InputKind.{InputKind}
 use Rattle.bridge_read.specs.declared.fault.InputKind.TheVariants as kind
 use Rattle.bridge_read.specs.declared.input.Declared.{Declared}
 use Rattle.bridge_ast.specs.declared.environment.fault.EnvPlace.{EnvPlace}
-use Rattle.bridge_ast.specs.declared.modules.Module.{Module}
+use Rattle.bridge_decl.specs.declared.modules.Module.{Module}
 use Rattle.bridge_read.specs.declared.input.Input.{Input}
 use Rattle.bridge_read.specs.declared.input.InputFault.{InputFault}
 use Rattle.bridge_read.specs.declared.input.InputFault.TheVariants.{NotDeclarations, NoMemory}

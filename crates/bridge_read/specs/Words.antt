@@ -1,17 +1,17 @@
 -- The words of the form: the names of primitive types, encodings, kinds of items, kinds of documented paths and displays of links.
 use Rattle.std.specs.Prelude.{ℕ, List, [], ◌∷◌, codes}
-use Rattle.bridge_ast.specs.declared.types.PrimitiveType.{PrimitiveType}
-use Rattle.bridge_ast.specs.declared.types.PrimitiveType.TheVariants as primitive
-use Rattle.bridge_ast.specs.declared.types.StringEncoding.{StringEncoding}
-use Rattle.bridge_ast.specs.declared.types.StringEncoding.TheVariants as encoding
+use Rattle.bridge_decl.specs.declared.types.PrimitiveType.{PrimitiveType}
+use Rattle.bridge_decl.specs.declared.types.PrimitiveType.TheVariants as primitive
+use Rattle.bridge_decl.specs.declared.types.StringEncoding.{StringEncoding}
+use Rattle.bridge_decl.specs.declared.types.StringEncoding.TheVariants as encoding
 use Rattle.bridge_read.specs.declared.fault.InputKind.{InputKind}
 use Rattle.bridge_read.specs.declared.fault.InputKind.TheVariants as input
 use Rattle.bridge_read.specs.declared.words.ItemKind.{ItemKind}
 use Rattle.bridge_read.specs.declared.words.ItemKind.TheVariants as item
-use Rattle.bridge_ast.specs.declared.docs.DocType.{DocType}
-use Rattle.bridge_ast.specs.declared.docs.DocType.TheVariants as doc
-use Rattle.bridge_ast.specs.declared.docs.RustLinkDisplay.{RustLinkDisplay}
-use Rattle.bridge_ast.specs.declared.docs.RustLinkDisplay.TheVariants as display
+use Rattle.bridge_decl.specs.declared.docs.DocType.{DocType}
+use Rattle.bridge_decl.specs.declared.docs.DocType.TheVariants as doc
+use Rattle.bridge_decl.specs.declared.docs.RustLinkDisplay.{RustLinkDisplay}
+use Rattle.bridge_decl.specs.declared.docs.RustLinkDisplay.TheVariants as display
 
 -- the name of a primitive type
 unfoldable pub primitive_text : PrimitiveType → List ℕ

@@ -12,12 +12,10 @@ use crate::objects::{in_entry, in_member, only, sole};
 use crate::reading::{
     FromForm, entries, held, listed, needed, needed_some, optional, room_for, text, two,
 };
-use bridge_ast::attrs::{
-    Assign, Attrs, DiplomatBackendAttr, DiplomatBackendAttrCfg, Lit, Meta, MetaValue, RenameAttr,
-    RenameFault,
+use bridge_ast::{
+    Assign, Attrs, Boxed, DiplomatBackendAttr, DiplomatBackendAttrCfg, Items, Lit, Meta, MetaValue,
+    RenameAttr, RenameFault, Text,
 };
-use bridge_ast::text::Text;
-use bridge_ast::{Boxed, Items};
 use lent_json::value::Json;
 use std::alloc::Global;
 

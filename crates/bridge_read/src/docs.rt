@@ -11,9 +11,7 @@ use crate::fault::ReadFault;
 use crate::keys::Key;
 use crate::objects::only;
 use crate::reading::{FromForm, held, listed, needed};
-use bridge_ast::Items;
-use bridge_ast::attrs::Attrs;
-use bridge_ast::docs::{DocBlock, Docs, RustLink};
+use bridge_ast::{Attrs, DocBlock, Docs, Items, RustLink};
 use lent_json::value::Json;
 use std::alloc::Global;
 

@@ -6,7 +6,7 @@ ghost use Rattle.bridge_read.specs.declared.fault.ReadFault.TheVariants.{NoMemor
 
 use crate::keys::Key;
 use crate::pointer::{Pointer, Step};
-use bridge_ast::text::{NoMemory, Text};
+use bridge_ast::{NoMemory, Text};
 use std::alloc::{AllocError, AllocFailed, Global};
 
 /// What is wrong with an input.

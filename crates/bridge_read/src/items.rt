@@ -14,12 +14,7 @@ use crate::methods::{or_name, signed};
 use crate::objects::{object, only};
 use crate::reading::{FromForm, flag_under, listed, needed, optional};
 use crate::words::ItemKind;
-use bridge_ast::enums::{Enum, Variant};
-use bridge_ast::functions::Function;
-use bridge_ast::lifetimes::LifetimeEnv;
-use bridge_ast::modules::Item;
-use bridge_ast::structs::{Field, OpaqueType, Struct};
-use bridge_ast::traits::Trait;
+use bridge_ast::{Enum, Field, Function, Item, LifetimeEnv, OpaqueType, Struct, Trait, Variant};
 use lent_json::value::Json;
 use std::alloc::Global;
 

@@ -3,19 +3,22 @@
 //! `read_input` reads an input whole, or tells its first fault: what kind, and at which JSON pointer.
 #![tactic(auto)]
 
-pub mod attrs;
-pub mod docs;
-pub mod fault;
-pub mod input;
-pub mod items;
-pub mod keys;
-pub mod lifetimes;
-pub mod methods;
-pub mod modules;
-pub mod objects;
-pub mod places;
-pub mod pointer;
-pub mod reading;
-pub mod settings;
-pub mod types;
-pub mod words;
+mod attrs;
+mod docs;
+mod fault;
+mod input;
+mod items;
+mod keys;
+mod lifetimes;
+mod methods;
+mod modules;
+mod objects;
+mod places;
+mod pointer;
+mod reading;
+mod settings;
+mod types;
+mod words;
+
+pub use fault::InputKind;
+pub use input::{Input, InputFault, read_input};

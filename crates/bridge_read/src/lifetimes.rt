@@ -7,10 +7,7 @@ use crate::fault::ReadFault;
 use crate::keys::Key;
 use crate::objects::only;
 use crate::reading::{FromForm, flag_under, listed, needed, needed_some, text};
-use bridge_ast::lifetimes::{Lifetime, LifetimeNode};
-use bridge_ast::paths::PathType;
-use bridge_ast::text::{NoMemory, Text};
-use bridge_ast::types::Mutability;
+use bridge_ast::{Lifetime, LifetimeNode, Mutability, NoMemory, PathType, Text};
 use lent_json::value::Json;
 use std::alloc::Global;
 

@@ -12,13 +12,10 @@ use crate::fault::ReadFault;
 use crate::keys::Key;
 use crate::objects::only;
 use crate::reading::{FromForm, held, listed, needed, optional};
-use bridge_ast::Items;
-use bridge_ast::lifetimes::{LifetimeEnv, LifetimeNode};
-use bridge_ast::methods::{Method, Param, SelfParam};
-use bridge_ast::paths::PathType;
-use bridge_ast::text::{NoMemory, Text};
-use bridge_ast::traits::{TraitMethod, TraitSelfParam};
-use bridge_ast::types::TypeName;
+use bridge_ast::{
+    Items, LifetimeEnv, LifetimeNode, Method, NoMemory, Param, PathType, SelfParam, Text,
+    TraitMethod, TraitSelfParam, TypeName,
+};
 use lent_json::value::Json;
 use std::alloc::Global;
 

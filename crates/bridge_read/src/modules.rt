@@ -11,10 +11,7 @@ use crate::fault::{Fault, InputKind, ReadFault};
 use crate::keys::Key;
 use crate::objects::{in_entry, in_member, only, under};
 use crate::reading::{FromForm, entries, held, listed, needed, text};
-use bridge_ast::Items;
-use bridge_ast::attrs::Attrs;
-use bridge_ast::modules::{Alias, Item, Module};
-use bridge_ast::text::{NoMemory, Text};
+use bridge_ast::{Alias, Attrs, Item, Items, Module, NoMemory, Text};
 use lent_json::value::Json;
 use std::alloc::{AllocError, Global};
 use std::marker::Model;
@@ -127,10 +124,10 @@ pub struct ModuleList {
 
 impl Model for ModuleList {
     ghost use Rattle.std.specs.Prelude.{List};
-    ghost use Rattle.bridge_ast.specs.declared.modules.Module.{Module as Declarations};
+    ghost use Rattle.bridge_decl.specs.declared.modules.Module.{Module as Declarations};
     ghost use Rattle.std.specs.Coded.{codes};
-    ghost use Rattle.bridge_ast.specs.contracts.attrs.DiplomatBackendAttrCfg as condition;
-    ghost use Rattle.bridge_ast.specs.contracts.types.TypeName as written_type;
+    ghost use Rattle.bridge_decl.specs.contracts.attrs.DiplomatBackendAttrCfg as condition;
+    ghost use Rattle.bridge_decl.specs.contracts.types.TypeName as written_type;
 
     ghost Value = { List Declarations };
 

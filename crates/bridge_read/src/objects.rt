@@ -14,7 +14,7 @@ ghost use Rattle.bridge_read.specs.Reading.{Gives, GivesBy, here, inside, under,
 use crate::fault::{Fault, InputKind, ReadFault};
 use crate::keys::Key;
 use crate::pointer::Step;
-use bridge_ast::text::Text;
+use bridge_ast::Text;
 use lent_json::object::Members;
 use lent_json::value::Json;
 use std::alloc::Global;

@@ -10,8 +10,7 @@ ghost use Rattle.bridge_read.specs.Reading.{at_key};
 use crate::keys::Key;
 use crate::objects::under;
 use crate::pointer::{Pointer, Step};
-use bridge_ast::environment::{EnvPart, EnvPlace};
-use bridge_ast::text::{NoMemory, Text};
+use bridge_ast::{EnvPart, EnvPlace, NoMemory, Text};
 use lent_json::value::Json;
 use std::alloc::Global;
 

@@ -3,7 +3,7 @@
 ghost use Rattle.std.specs.Prelude.{◌≡◌, ◌∷◌, ◌++◌, [], IfOk, OnOk, decimal, string_bytes};
 ghost use Rattle.bridge_read.specs.Pointers.{escaped, escaped_text, pointer_text, step_text};
 
-use bridge_ast::text::{NoMemory, Text};
+use bridge_ast::{NoMemory, Text};
 use itoa::Buffer;
 use std::alloc::Global;
 use std::marker::Model;

@@ -9,8 +9,7 @@ ghost use Rattle.bridge_read.specs.Reading.{Gives, GivesBy, Stops, here, within,
 use crate::fault::{Fault, InputKind, ReadFault};
 use crate::keys::Key;
 use crate::objects::{in_entry, in_member, under};
-use bridge_ast::Items;
-use bridge_ast::text::{NoMemory, Text};
+use bridge_ast::{Items, NoMemory, Text};
 use lent_json::value::Json;
 use std::alloc::Global;
 

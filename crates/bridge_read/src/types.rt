@@ -11,10 +11,10 @@ use crate::lifetimes::mutability;
 use crate::objects::{in_entry, in_member, only, sole, under};
 use crate::reading::{FromForm, entries, flag_under, needed, optional, room_for, text};
 use crate::words::find_word;
-use bridge_ast::lifetimes::Lifetime;
-use bridge_ast::paths::PathType;
-use bridge_ast::types::{Mutability, PrimitiveType, StdlibOrDiplomat, TypeName, WriteType};
-use bridge_ast::{Boxed, Items};
+use bridge_ast::{
+    Boxed, Items, Lifetime, Mutability, PathType, PrimitiveType, StdlibOrDiplomat, TypeName,
+    WriteType,
+};
 use lent_json::value::Json;
 use std::alloc::Global;
 

@@ -7,8 +7,7 @@ ghost use Rattle.bridge_read.specs.Reading.{Gives};
 
 use crate::fault::{Fault, InputKind, ReadFault};
 use crate::reading::{FromForm, text};
-use bridge_ast::docs::{DocType, RustLinkDisplay};
-use bridge_ast::types::{PrimitiveType, StringEncoding};
+use bridge_ast::{DocType, PrimitiveType, RustLinkDisplay, StringEncoding};
 use lent_json::value::Json;
 use std::alloc::Global;
 

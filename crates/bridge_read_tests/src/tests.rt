@@ -10,7 +10,7 @@ mod parts;
 mod unfit;
 
 use accepted::{ACCEPTED, ACCEPTED_PARTS};
-use bridge_read::input::{InputFault, read_input};
+use bridge_read::{InputFault, read_input};
 use faulty::{FAULTY_INPUTS, FAULTY_ITEMS, FAULTY_MODULES, FAULTY_OTHER_ITEMS, FAULTY_SETTINGS};
 use faulty_attrs::{FAULTY_CONDITIONS, FAULTY_DOCS, FAULTY_LITERALS, FAULTY_MARKS};
 use faulty_parts::{FAULTY_METHODS, FAULTY_TYPES, FAULTY_WORDS};

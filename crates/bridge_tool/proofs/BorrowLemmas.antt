@@ -6,14 +6,14 @@ use Rattle.std.proofs.lemmas.List.Concat.{flat_map-cons}
 use Rattle.std.proofs.lemmas.List.{append-nil, take_more, take_all, length-take-le, length-map}
 use Rattle.std.proofs.lemmas.List.Elements.{All-from_recursion, All-append}
 use Rattle.std.proofs.lemmas.Option.{slice_get_cases}
-use Rattle.bridge_ast.specs.declared.lifetimes.Lifetime.{Lifetime}
-use Rattle.bridge_ast.specs.declared.lifetimes.Lifetime.TheVariants.{Static, Named, Anonymous}
-use Rattle.bridge_ast.specs.declared.lifetimes.LifetimeEnv.{LifetimeEnv}
-use Rattle.bridge_ast.specs.declared.lifetimes.LifetimeNode.{LifetimeNode}
-use Rattle.bridge_ast.specs.declared.types.TypeName.{out-TypeName}
-use Rattle.bridge_ast.specs.declared.methods.Method.{Method}
-use Rattle.bridge_ast.specs.declared.methods.Param.{Param}
-use Rattle.bridge_ast.specs.Environments.{lifetime_names}
+use Rattle.bridge_decl.specs.declared.lifetimes.Lifetime.{Lifetime}
+use Rattle.bridge_decl.specs.declared.lifetimes.Lifetime.TheVariants.{Static, Named, Anonymous}
+use Rattle.bridge_decl.specs.declared.lifetimes.LifetimeEnv.{LifetimeEnv}
+use Rattle.bridge_decl.specs.declared.lifetimes.LifetimeNode.{LifetimeNode}
+use Rattle.bridge_decl.specs.declared.types.TypeName.{out-TypeName}
+use Rattle.bridge_decl.specs.declared.methods.Method.{Method}
+use Rattle.bridge_decl.specs.declared.methods.Param.{Param}
+use Rattle.bridge_decl.specs.Environments.{lifetime_names}
 use Rattle.bridge_tool.specs.declared.report.InputPlace.{InputPlace}
 use Rattle.bridge_tool.specs.declared.report.InputPlace.TheVariants.{Receiver, Param as Parameter}
 use Rattle.bridge_tool.specs.declared.report.LeafPath.{LeafPath}

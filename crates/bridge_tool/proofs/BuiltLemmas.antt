@@ -3,9 +3,9 @@ use Rattle.std.proofs.Common.{◌≡◌, ℕ, ◌+◌, ◌<◌, ◌≤◌, Bool,
 use Rattle.std.specs.Prelude.{◌↔◌, IsTrue, All}
 use Rattle.std.proofs.lemmas.List.{take_more, take_all}
 use Rattle.std.proofs.lemmas.List.Elements.{All-push}
-use Rattle.bridge_ast.specs.declared.attrs.Attrs.{Attrs}
-use Rattle.bridge_ast.specs.declared.docs.Docs.{Docs}
-use Rattle.bridge_ast.specs.declared.paths.PathType.{PathType}
+use Rattle.bridge_decl.specs.declared.attrs.Attrs.{Attrs}
+use Rattle.bridge_decl.specs.declared.docs.Docs.{Docs}
+use Rattle.bridge_decl.specs.declared.paths.PathType.{PathType}
 use Rattle.bridge_tool.specs.Built.{one_segment}
 use Rattle.bridge_read.specs.forms.Attrs.{no_attrs}
 use Rattle.bridge_read.specs.forms.Docs.{no_docs}

@@ -4,11 +4,11 @@ use Rattle.std.specs.Prelude.{All, Contains}
 use Rattle.std.specs.List.{flat_map}
 use Rattle.std.proofs.lemmas.List.Concat.{flat_map-cons}
 use Rattle.std.proofs.lemmas.List.Elements.{Contains-append_left, Contains-append_right, Contains-get_or}
-use Rattle.bridge_ast.specs.declared.methods.Method.{Method}
-use Rattle.bridge_ast.specs.declared.modules.Item.{Item}
-use Rattle.bridge_ast.specs.declared.modules.Module.{Module}
-use Rattle.bridge_ast.specs.Environments.{lifetime_names}
-use Rattle.bridge_ast.specs.Names.{item_name, Place}
+use Rattle.bridge_decl.specs.declared.methods.Method.{Method}
+use Rattle.bridge_decl.specs.declared.modules.Item.{Item}
+use Rattle.bridge_decl.specs.declared.modules.Module.{Module}
+use Rattle.bridge_decl.specs.Environments.{lifetime_names}
+use Rattle.bridge_decl.specs.Names.{item_name, Place}
 use Rattle.bridge_tool.specs.declared.rules.Rule.TheVariants as rule
 use Rattle.bridge_tool.specs.Breaks.{Breaks, BreakNothing}
 use Rattle.bridge_tool.specs.Checks.{Check, name, path, lifetime, Fails, Tested, tested_at_number, tested_in, tested_in_module, tested_in_item, tested_in_method, method_checks, method_names, method_paths}

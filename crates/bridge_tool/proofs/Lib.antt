@@ -3,14 +3,11 @@ pub mod BuiltLemmas
 pub mod ChosenLemmas
 pub mod HeadlineLemmas
 pub mod IndexLemmas
-pub mod JoinedLists
 pub mod JudgeLemmas
 pub mod LinesLemmas
 pub mod ListingLemmas
 pub mod NumberLemmas
 pub mod PageLemmas
-pub mod PrintingLaws
-pub mod ReadSoFar
 pub mod RefusalLemmas
 pub mod ReportLemmas
 pub mod ReportsLemmas

@@ -5,10 +5,10 @@ use Rattle.std.specs.List.{flat_map, join_by}
 use Rattle.std.proofs.lemmas.Bool.{eqb-true}
 use Rattle.std.proofs.lemmas.List.{append-nil, flat_map_more, length-map}
 use Rattle.std.proofs.lemmas.List.Concat.{flat_map-cons}
-use Rattle.bridge_ast.specs.Names.{joined}
+use Rattle.bridge_decl.specs.Names.{joined}
 use Rattle.bridge_tool.specs.Lines.{Reported, after, item_segments, lines, method_segments, report_text, root_text, segments_text}
 use Rattle.bridge_tool.specs.Checks.{Tested}
-use Rattle.bridge_tool.specs.Printing.{separator_at}
+use Rattle.bridge_outside.specs.Printing.{separator_at}
 
 -- no name, no segment
 pub item_left_out : (before : ℕ) (item : List ℕ) (empty : Bool) → empty ≡ (length item == 0) → empty ≡ true → after before (item_segments item) ≡ []

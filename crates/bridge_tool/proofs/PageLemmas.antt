@@ -4,10 +4,10 @@ use Rattle.std.specs.Prelude.{◌==◌, slice_get, codes, option_map, unwrap_or}
 use Rattle.std.specs.List.{flat_map, join_by}
 use Rattle.std.proofs.lemmas.List.{append-nil, take_all, take-take, take_min, length-map, length-append, drop-drop, drop_min}
 use Rattle.std.proofs.lemmas.Option.{get_or_from_slice_get, slice_get-map, slice_get_read, unwrap_or-slice_get}
-use Rattle.bridge_ast.specs.declared.methods.Method.{Method}
-use Rattle.bridge_ast.specs.declared.modules.Item.{Item}
-use Rattle.bridge_ast.specs.declared.modules.Module.{Module}
-use Rattle.bridge_ast.specs.Names.{item_name}
+use Rattle.bridge_decl.specs.declared.methods.Method.{Method}
+use Rattle.bridge_decl.specs.declared.modules.Item.{Item}
+use Rattle.bridge_decl.specs.declared.modules.Module.{Module}
+use Rattle.bridge_decl.specs.Names.{item_name}
 use Rattle.bridge_tool.specs.declared.report.CallableReport.{CallableReport}
 use Rattle.bridge_tool.specs.Borrows.{Callable, callables_of, callables_in}
 use Rattle.bridge_tool.specs.Chosen.{EachPair}

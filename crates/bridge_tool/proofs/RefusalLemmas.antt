@@ -3,8 +3,8 @@ use Rattle.std.proofs.Common.{◌≡◌, ◌≤◌, ℕ, zero, suc, Bool, true, 
 use Rattle.std.specs.Prelude.{◌==◌, Contains}
 use Rattle.std.proofs.lemmas.Bool.{eqb-true}
 use Rattle.std.proofs.lemmas.List.{length-map}
-use Rattle.bridge_ast.specs.declared.modules.Module.{Module}
-use Rattle.bridge_ast.specs.Names.{Place}
+use Rattle.bridge_decl.specs.declared.modules.Module.{Module}
+use Rattle.bridge_decl.specs.Names.{Place}
 use Rattle.bridge_tool.specs.declared.rules.Rule.{Rule}
 use Rattle.bridge_tool.specs.declared.rules.Rule.TheVariants as rule
 use Rattle.bridge_tool.specs.Breaks.{Breaks, BreakNothing}

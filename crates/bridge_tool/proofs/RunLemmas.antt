@@ -4,16 +4,16 @@ use Rattle.std.specs.Prelude.{◌↔◌, ◌⊎◌, IfSome, IsTrue, String, code
 use Rattle.std.specs.Str.{bytes_eq}
 use Rattle.std.proofs.lemmas.Slice.Eq.{bytes_eq-Decides}
 use Rattle.std.specs.declared.alloc.Global.{Global}
-use Rattle.bridge_ast.specs.declared.modules.Module.{Module}
-use Rattle.bridge_tool.specs.declared.sink.SinkFault.{SinkFault}
-use Rattle.bridge_tool.specs.declared.sink.SinkFault.TheVariants.{Failed, NoMemory}
+use Rattle.bridge_decl.specs.declared.modules.Module.{Module}
+use Rattle.bridge_outside.specs.declared.sink.SinkFault.{SinkFault}
+use Rattle.bridge_outside.specs.declared.sink.SinkFault.TheVariants.{Failed, NoMemory}
 use Rattle.bridge_tool.specs.declared.status.Status.{Status}
 use Rattle.bridge_tool.specs.declared.status.Status.TheVariants as status
 use Rattle.bridge_tool.specs.Breaks.{BreakNothing}
 use Rattle.bridge_tool.specs.Lines.{Reported, AreRefusedBy, lines}
-use Rattle.bridge_tool.specs.Outside.{Rose, taken_with}
+use Rattle.bridge_outside.specs.Outside.{Rose, taken_with}
 use Rattle.bridge_tool.specs.Page.{IsPage}
-use Rattle.bridge_tool.specs.Printing.{Delivers}
+use Rattle.bridge_outside.specs.Printing.{Delivers}
 use Rattle.bridge_tool.specs.Declining.{IsDeclinedBy}
 use Rattle.bridge_tool.specs.Running.{World, Accepts, Refuses, Spells, Told, AreCommand, Answered, Declines, IsAnswerTo, IsCutOff, IsTextOf, IsUnfinished, Ran, WereRead, ended_with}
 use Rattle.bridge_tool.specs.Statuses.{code_of}

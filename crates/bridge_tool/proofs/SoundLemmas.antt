@@ -11,16 +11,16 @@ use Rattle.std.proofs.lemmas.List.Sums.{AllPass-from_list_all}
 use Rattle.bridge_ast.specs.declared.environment.bounds.Side.{Side}
 use Rattle.bridge_ast.specs.declared.environment.bounds.Side.TheVariants.{Longer, Shorter}
 use Rattle.bridge_ast.specs.declared.environment.fault.EnvPart.TheVariants as part
-use Rattle.bridge_ast.specs.declared.lifetimes.LifetimeEnv.{LifetimeEnv}
-use Rattle.bridge_ast.specs.declared.lifetimes.LifetimeNode.{LifetimeNode}
-use Rattle.bridge_ast.specs.declared.methods.Method.{Method}
-use Rattle.bridge_ast.specs.declared.modules.Item.{Item}
-use Rattle.bridge_ast.specs.declared.modules.Item.TheVariants.{Struct, Opaque, Enum, Trait, Function}
-use Rattle.bridge_ast.specs.declared.modules.Module.{Module}
+use Rattle.bridge_decl.specs.declared.lifetimes.LifetimeEnv.{LifetimeEnv}
+use Rattle.bridge_decl.specs.declared.lifetimes.LifetimeNode.{LifetimeNode}
+use Rattle.bridge_decl.specs.declared.methods.Method.{Method}
+use Rattle.bridge_decl.specs.declared.modules.Item.{Item}
+use Rattle.bridge_decl.specs.declared.modules.Item.TheVariants.{Struct, Opaque, Enum, Trait, Function}
+use Rattle.bridge_decl.specs.declared.modules.Module.{Module}
 use Rattle.bridge_ast.specs.Bounds.{answered, has_number, in_range, listed, listed_at, opposite_of}
 use Rattle.bridge_ast.specs.Each.{each_after}
 use Rattle.bridge_ast.specs.EnvFaults.{part_named}
-use Rattle.bridge_ast.specs.Environments.{AreDistinct, IsSoundEnvironment}
+use Rattle.bridge_decl.specs.Environments.{AreDistinct, IsSoundEnvironment}
 use Rattle.bridge_ast.specs.Sound.{AllAfter, AreSound, AreSoundNodes, IsSoundItem, IsSoundModule, IsSoundNode}
 use Rattle.bridge_ast.proofs.AnsweredLemmas.{has}
 use Rattle.bridge_ast.proofs.IndexLemmas.{none_parts, text_itself}

@@ -4,7 +4,7 @@ use Rattle.std.specs.Prelude.{All, Contains, max, ◌==◌, slice_get}
 use Rattle.std.proofs.lemmas.Bool.{eq-eqb, eqb-true, eqb-false}
 use Rattle.std.proofs.lemmas.List.{append-nil, append_assoc, take_more}
 use Rattle.std.proofs.lemmas.List.Elements.{Contains-append_left, Contains-append_right}
-use Rattle.bridge_ast.specs.declared.modules.Module.{Module}
+use Rattle.bridge_decl.specs.declared.modules.Module.{Module}
 use Rattle.bridge_tool.specs.Walking.{at_depth, deepest, shallower, walk_order, where_there}
 
 -- ---- one module more

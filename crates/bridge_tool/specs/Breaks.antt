@@ -1,7 +1,7 @@
 -- Which rules declarations break, where, and with which arguments.
 use Rattle.std.specs.Prelude.{ℕ, List}
-use Rattle.bridge_ast.specs.declared.modules.Module.{Module}
-use Rattle.bridge_ast.specs.Names.{Place}
+use Rattle.bridge_decl.specs.declared.modules.Module.{Module}
+use Rattle.bridge_decl.specs.Names.{Place}
 use Rattle.bridge_tool.specs.declared.rules.Rule.{Rule}
 use Rattle.bridge_tool.specs.declared.rules.Rule.TheVariants as rule
 use Rattle.bridge_tool.specs.rules.BadIdent.{BadIdent}

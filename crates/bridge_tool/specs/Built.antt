@@ -2,20 +2,20 @@
 -- take references to named types, and return such a reference, a box of a named type, or nothing. Paths have no lifetimes. Modules
 -- and aliases stand as they like.
 use Rattle.std.specs.Prelude.{◌≡◌, ⊤, ℕ, List, [], ◌∷◌, All, Option, Some, None}
-use Rattle.bridge_ast.specs.declared.lifetimes.Lifetime.{Lifetime}
-use Rattle.bridge_ast.specs.declared.lifetimes.Lifetime.TheVariants.{Static, Named, Anonymous}
-use Rattle.bridge_ast.specs.declared.methods.Method.{Method}
-use Rattle.bridge_ast.specs.declared.methods.Param.{Param}
-use Rattle.bridge_ast.specs.declared.methods.SelfParam.{SelfParam}
-use Rattle.bridge_ast.specs.declared.modules.Item.{Item}
-use Rattle.bridge_ast.specs.declared.modules.Item.TheVariants.{Struct, Opaque, Enum, Trait, Function}
-use Rattle.bridge_ast.specs.declared.modules.Module.{Module}
-use Rattle.bridge_ast.specs.declared.paths.PathType.{PathType}
-use Rattle.bridge_ast.specs.declared.structs.OpaqueType.{OpaqueType}
-use Rattle.bridge_ast.specs.declared.types.Mutability.{Mutability}
-use Rattle.bridge_ast.specs.declared.types.Mutability.TheVariants.{Immutable}
-use Rattle.bridge_ast.specs.declared.types.TypeName.{TypeName, out-TypeName}
-use Rattle.bridge_ast.specs.declared.types.TypeName.TheOpen.{TypeName-F}
+use Rattle.bridge_decl.specs.declared.lifetimes.Lifetime.{Lifetime}
+use Rattle.bridge_decl.specs.declared.lifetimes.Lifetime.TheVariants.{Static, Named, Anonymous}
+use Rattle.bridge_decl.specs.declared.methods.Method.{Method}
+use Rattle.bridge_decl.specs.declared.methods.Param.{Param}
+use Rattle.bridge_decl.specs.declared.methods.SelfParam.{SelfParam}
+use Rattle.bridge_decl.specs.declared.modules.Item.{Item}
+use Rattle.bridge_decl.specs.declared.modules.Item.TheVariants.{Struct, Opaque, Enum, Trait, Function}
+use Rattle.bridge_decl.specs.declared.modules.Module.{Module}
+use Rattle.bridge_decl.specs.declared.paths.PathType.{PathType}
+use Rattle.bridge_decl.specs.declared.structs.OpaqueType.{OpaqueType}
+use Rattle.bridge_decl.specs.declared.types.Mutability.{Mutability}
+use Rattle.bridge_decl.specs.declared.types.Mutability.TheVariants.{Immutable}
+use Rattle.bridge_decl.specs.declared.types.TypeName.{TypeName, out-TypeName}
+use Rattle.bridge_decl.specs.declared.types.TypeName.TheOpen.{TypeName-F}
 use Rattle.bridge_read.specs.forms.Attrs.{no_attrs}
 use Rattle.bridge_read.specs.forms.Docs.{no_docs}
 use Rattle.bridge_tool.specs.Checks.{Layer}

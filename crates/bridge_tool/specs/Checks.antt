@@ -1,21 +1,21 @@
 -- What rules test: the names, paths and lifetimes of declarations, each with the place where it stands.
 use Rattle.std.specs.Prelude.{ℕ, List, [], ◌∷◌, ◌++◌, map, Option, Some, None, slice_get}
 use Rattle.std.specs.List.{flat_map, Contains}
-use Rattle.bridge_ast.specs.declared.lifetimes.Lifetime.{Lifetime}
-use Rattle.bridge_ast.specs.declared.lifetimes.Lifetime.TheVariants.{Static, Named, Anonymous}
-use Rattle.bridge_ast.specs.declared.lifetimes.LifetimeEnv.{LifetimeEnv}
-use Rattle.bridge_ast.specs.declared.paths.PathType.{PathType}
-use Rattle.bridge_ast.specs.declared.types.Mutability.{Mutability}
-use Rattle.bridge_ast.specs.declared.types.TypeName.{TypeName, out-TypeName}
-use Rattle.bridge_ast.specs.declared.types.TypeName.TheOpen.{TypeName-F}
-use Rattle.bridge_ast.specs.declared.methods.Method.{Method}
-use Rattle.bridge_ast.specs.declared.methods.SelfParam.{SelfParam}
+use Rattle.bridge_decl.specs.declared.lifetimes.Lifetime.{Lifetime}
+use Rattle.bridge_decl.specs.declared.lifetimes.Lifetime.TheVariants.{Static, Named, Anonymous}
+use Rattle.bridge_decl.specs.declared.lifetimes.LifetimeEnv.{LifetimeEnv}
+use Rattle.bridge_decl.specs.declared.paths.PathType.{PathType}
+use Rattle.bridge_decl.specs.declared.types.Mutability.{Mutability}
+use Rattle.bridge_decl.specs.declared.types.TypeName.{TypeName, out-TypeName}
+use Rattle.bridge_decl.specs.declared.types.TypeName.TheOpen.{TypeName-F}
+use Rattle.bridge_decl.specs.declared.methods.Method.{Method}
+use Rattle.bridge_decl.specs.declared.methods.SelfParam.{SelfParam}
 use Rattle.bridge_ast.specs.declared.environment.walk.ItemPlace.{ItemPlace}
-use Rattle.bridge_ast.specs.declared.modules.Item.{Item}
-use Rattle.bridge_ast.specs.declared.modules.Module.{Module}
-use Rattle.bridge_ast.specs.Environments.{lifetime_names}
-use Rattle.bridge_ast.specs.Ident.{IsIdent}
-use Rattle.bridge_ast.specs.Names.{item_name, Place}
+use Rattle.bridge_decl.specs.declared.modules.Item.{Item}
+use Rattle.bridge_decl.specs.declared.modules.Module.{Module}
+use Rattle.bridge_decl.specs.Environments.{lifetime_names}
+use Rattle.bridge_decl.specs.Ident.{IsIdent}
+use Rattle.bridge_decl.specs.Names.{item_name, Place}
 use Rattle.bridge_ast.specs.Types.{NamesType}
 use Rattle.bridge_tool.specs.Methods.{methods_of}
 use Rattle.bridge_tool.specs.Walking.{of_found, walk_order}

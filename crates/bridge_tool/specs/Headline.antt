@@ -1,10 +1,10 @@
 -- The headline: what a run that nothing disturbs answers to declarations.
 use Rattle.std.specs.Prelude.{◌≡◌, ◌≢◌, ◌⊎◌, ◌↔◌, ℕ, List, [], Some, String}
 use Rattle.std.specs.declared.alloc.Global.{Global}
-use Rattle.bridge_ast.specs.declared.modules.Module.{Module}
+use Rattle.bridge_decl.specs.declared.modules.Module.{Module}
 use Rattle.bridge_tool.specs.Breaks.{BreakNothing}
 use Rattle.bridge_tool.specs.Lines.{Reported, AreRefusedBy, lines}
-use Rattle.bridge_tool.specs.Outside.{Rose, taken_with}
+use Rattle.bridge_outside.specs.Outside.{Rose, taken_with}
 use Rattle.bridge_tool.specs.Page.{IsPage}
 use Rattle.bridge_tool.specs.Running.{World, AreCommand, Spells}
 

@@ -1,6 +1,6 @@
 -- What the verdict on an input says.
 use Rattle.std.specs.Prelude.{◌≡◌, ℕ, List}
-use Rattle.bridge_ast.specs.declared.modules.Module.{Module}
+use Rattle.bridge_decl.specs.declared.modules.Module.{Module}
 use Rattle.bridge_read.specs.declared.input.Input.{Input}
 use Rattle.bridge_tool.specs.declared.verdict.Verdict.{Verdict}
 use Rattle.bridge_tool.specs.declared.verdict.Verdict.TheVariants.{Declarations, Faulty, NotBuilt}

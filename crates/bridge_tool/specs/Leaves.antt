@@ -1,6 +1,6 @@
 -- Leaves as they are kept while a callable is looked at.
 use Rattle.std.specs.Prelude.{◌≡◌, ◌<◌, ℕ, List, [], ◌++◌, map, option_to_list, All}
-use Rattle.bridge_ast.specs.declared.lifetimes.LifetimeEnv.{LifetimeEnv}
+use Rattle.bridge_decl.specs.declared.lifetimes.LifetimeEnv.{LifetimeEnv}
 use Rattle.bridge_tool.specs.declared.borrow.Leaf.{Leaf as Kept}
 use Rattle.bridge_tool.specs.declared.report.LeafPath.{LeafPath}
 use Rattle.bridge_tool.specs.declared.report.ReportEdge.{ReportEdge}

@@ -10,16 +10,11 @@ pub mod Judging
 pub mod Leaves
 pub mod Lines
 pub mod Methods
-pub mod Outside
 pub mod Page
-pub mod Printing
 pub mod Reports
 pub mod Running
 pub mod Signature
-pub mod Sinks
-pub mod Sources
 pub mod Statuses
 pub mod Tested
 pub mod Walking
-pub mod Whole
 pub mod rules

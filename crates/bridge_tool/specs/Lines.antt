@@ -1,14 +1,14 @@
 -- The lines that are printed for declarations that break a rule.
 use Rattle.std.specs.Prelude.{◌≡◌, ◌≤◌, ℕ, List, [], ◌∷◌, ◌++◌, length, map, codes, decimal, Contains, Option, Some, None, Bool, true, false}
 use Rattle.std.specs.List.{flat_map, join_by}
-use Rattle.bridge_ast.specs.declared.modules.Module.{Module}
-use Rattle.bridge_ast.specs.Names.{Place, path_text}
+use Rattle.bridge_decl.specs.declared.modules.Module.{Module}
+use Rattle.bridge_decl.specs.Names.{Place, path_text}
 use Rattle.bridge_tool.specs.declared.rules.Rule.{Rule}
 use Rattle.bridge_tool.specs.declared.rules.Rule.TheVariants as rule
 use Rattle.bridge_tool.specs.Breaks.{Breaks}
 use Rattle.bridge_tool.specs.Checks.{Check, name, path, lifetime, Tested, tested_in}
 use Rattle.bridge_tool.specs.Chosen.{Chosen}
-use Rattle.bridge_tool.specs.Printing.{separator_at}
+use Rattle.bridge_outside.specs.Printing.{separator_at}
 use Rattle.bridge_tool.specs.Reports.{TestFails}
 
 -- a report: a rule, the place where it is broken, and the arguments of its text

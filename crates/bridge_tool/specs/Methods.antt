@@ -1,10 +1,10 @@
 -- The methods of items, and that their lifetimes fit together: what the rules and the page rest on.
 use Rattle.std.specs.Prelude.{List, [], All}
-use Rattle.bridge_ast.specs.declared.methods.Method.{Method}
-use Rattle.bridge_ast.specs.declared.modules.Item.{Item}
-use Rattle.bridge_ast.specs.declared.modules.Item.TheVariants.{Struct, Opaque, Enum, Trait, Function}
-use Rattle.bridge_ast.specs.declared.modules.Module.{Module}
-use Rattle.bridge_ast.specs.Environments.{IsSoundEnvironment}
+use Rattle.bridge_decl.specs.declared.methods.Method.{Method}
+use Rattle.bridge_decl.specs.declared.modules.Item.{Item}
+use Rattle.bridge_decl.specs.declared.modules.Item.TheVariants.{Struct, Opaque, Enum, Trait, Function}
+use Rattle.bridge_decl.specs.declared.modules.Module.{Module}
+use Rattle.bridge_decl.specs.Environments.{IsSoundEnvironment}
 
 -- the methods of an item, in order
 abbrev pub methods_of : Item → List Method

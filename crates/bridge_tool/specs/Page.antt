@@ -1,9 +1,9 @@
 -- The page that is printed for accepted declarations.
 use Rattle.std.specs.Prelude.{◌≡◌, ℕ, List, [], ◌∷◌, ◌++◌, ◌==◌, length, map, slice_index_or, codes, decimal, Option, Some, None, true, false, Bool}
 use Rattle.std.specs.List.{flat_map, join_by}
-use Rattle.bridge_ast.specs.declared.methods.Method.{Method}
-use Rattle.bridge_ast.specs.declared.modules.Module.{Module}
-use Rattle.bridge_ast.specs.Environments.{lifetime_names}
+use Rattle.bridge_decl.specs.declared.methods.Method.{Method}
+use Rattle.bridge_decl.specs.declared.modules.Module.{Module}
+use Rattle.bridge_decl.specs.Environments.{lifetime_names}
 use Rattle.bridge_tool.specs.declared.report.InputPlace.{InputPlace}
 use Rattle.bridge_tool.specs.declared.report.InputPlace.TheVariants.{Receiver, Param as Parameter}
 use Rattle.bridge_tool.specs.declared.report.LeafPath.{LeafPath}

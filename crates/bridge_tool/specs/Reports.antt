@@ -1,6 +1,6 @@
 -- Lists of faults, as reports of the tests that failed.
 use Rattle.std.specs.Prelude.{◌≡◌, List, ◌++◌, map, option_map}
-use Rattle.bridge_ast.specs.declared.modules.Module.{Module}
+use Rattle.bridge_decl.specs.declared.modules.Module.{Module}
 use Rattle.bridge_tool.specs.declared.faults.At.{At}
 use Rattle.bridge_tool.specs.declared.faults.Fault.{Fault}
 use Rattle.bridge_tool.specs.declared.faults.Fault.TheVariants.{BadIdent, UnresolvedPath, LifetimeUnknown}

@@ -1,10 +1,10 @@
 -- What a run of the program does to the outside.
 use Rattle.std.specs.Prelude.{◌≡◌, ◌≤◌, ◌<◌, ◌^◌, ◌⊎◌, ◌++◌, ℕ, List, [], ◌∷◌, length, map, codes, string_bytes, Option, Some, IfSome, String, Result, Ok, Err}
 use Rattle.std.specs.declared.alloc.Global.{Global}
-use Rattle.bridge_ast.specs.declared.modules.Module.{Module}
+use Rattle.bridge_decl.specs.declared.modules.Module.{Module}
 use Rattle.bridge_read.specs.declared.input.Input.{Input}
-use Rattle.bridge_tool.specs.declared.sink.SinkFault.{SinkFault}
-use Rattle.bridge_tool.specs.declared.sink.SinkFault.TheVariants.{Failed, NoMemory}
+use Rattle.bridge_outside.specs.declared.sink.SinkFault.{SinkFault}
+use Rattle.bridge_outside.specs.declared.sink.SinkFault.TheVariants.{Failed, NoMemory}
 use Rattle.bridge_tool.specs.declared.status.Status.{Status}
 use Rattle.bridge_tool.specs.declared.status.Status.TheVariants as status
 use Rattle.bridge_tool.specs.Breaks.{BreakNothing}
@@ -12,7 +12,7 @@ use Rattle.bridge_tool.specs.Built.{AreBuilt}
 use Rattle.bridge_tool.specs.Declining.{IsDeclinedBy}
 use Rattle.bridge_read.specs.Inputs.{SpellsInput}
 use Rattle.bridge_tool.specs.Lines.{Reported, AreRefusedBy, lines}
-use Rattle.bridge_tool.specs.Outside.{Rose, taken_with}
+use Rattle.bridge_outside.specs.Outside.{Rose, taken_with}
 use Rattle.bridge_tool.specs.Page.{IsPage}
 
 -- the outside: the bytes that the source has left and those that the sink has taken, where they are told, and how often each failed

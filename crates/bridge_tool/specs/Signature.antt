@@ -1,11 +1,11 @@
 -- The environment of a signature, as the walks over lifetimes see it.
 use Rattle.std.specs.Prelude.{length, map, All}
-use Rattle.bridge_ast.specs.declared.lifetimes.LifetimeEnv.{LifetimeEnv}
-use Rattle.bridge_ast.specs.declared.lifetimes.LifetimeNode.{LifetimeNode}
-use Rattle.bridge_ast.specs.declared.modules.Item.{Item}
-use Rattle.bridge_ast.specs.declared.modules.Module.{Module}
-use Rattle.bridge_ast.specs.Environments.{lifetime_names}
-use Rattle.bridge_ast.specs.Ident.{IsIdent}
+use Rattle.bridge_decl.specs.declared.lifetimes.LifetimeEnv.{LifetimeEnv}
+use Rattle.bridge_decl.specs.declared.lifetimes.LifetimeNode.{LifetimeNode}
+use Rattle.bridge_decl.specs.declared.modules.Item.{Item}
+use Rattle.bridge_decl.specs.declared.modules.Module.{Module}
+use Rattle.bridge_decl.specs.Environments.{lifetime_names}
+use Rattle.bridge_decl.specs.Ident.{IsIdent}
 use Rattle.hir_life.specs.declared.bounds.BoundedLifetime.{BoundedLifetime}
 use Rattle.hir_life.specs.Environment.{Environment}
 use Rattle.bridge_tool.specs.Methods.{methods_of}

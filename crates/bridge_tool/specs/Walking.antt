@@ -1,7 +1,7 @@
 -- The order in which modules are gone through: by the number of the segments of their paths, and then by their places in the
 -- list. So each module comes before those inside it, and before all that are deeper than it.
 use Rattle.std.specs.Prelude.{ℕ, zero, suc, ◌+◌, max, List, [], ◌∷◌, ◌++◌, length, ◌==◌, Bool, true, false, Option, Some, None}
-use Rattle.bridge_ast.specs.declared.modules.Module.{Module}
+use Rattle.bridge_decl.specs.declared.modules.Module.{Module}
 
 abbrev pub where_there : Bool → ℕ → List ℕ
 where_there true n = n ∷ []

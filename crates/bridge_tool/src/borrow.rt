@@ -5,10 +5,10 @@ ghost use Rattle.std.specs.Option.{option_copied};
 ghost use Rattle.hir_life.specs.Environment.{Environment, longer_of};
 ghost use Rattle.hir_life.specs.Flags.{FlagsOutliving};
 ghost use Rattle.hir_life.specs.Outlives.{Outlives};
-ghost use Rattle.bridge_ast.specs.declared.lifetimes.LifetimeEnv.{LifetimeEnv as Signature};
-ghost use Rattle.bridge_ast.specs.declared.methods.Method.{Method as Declared};
-ghost use Rattle.bridge_ast.specs.Environments.{lifetime_names, declared_longer, IsSoundEnvironment};
-ghost use Rattle.bridge_ast.specs.Ident.{IsIdent};
+ghost use Rattle.bridge_decl.specs.declared.lifetimes.LifetimeEnv.{LifetimeEnv as Signature};
+ghost use Rattle.bridge_decl.specs.declared.methods.Method.{Method as Declared};
+ghost use Rattle.bridge_decl.specs.Environments.{lifetime_names, declared_longer, IsSoundEnvironment};
+ghost use Rattle.bridge_decl.specs.Ident.{IsIdent};
 ghost use Rattle.bridge_ast.specs.Sound.{AreSound};
 ghost use Rattle.bridge_tool.specs.Borrows.{numbers, leaves_at, param_leaves, leaves as leaves_in, named, IsReturned, Callable, callables_of, callables_in, IsCallableReport, AreReports, callables_at};
 ghost use Rattle.bridge_tool.specs.Chosen.{EachPair};
@@ -24,11 +24,7 @@ use crate::index::{NameIndex, index_lifetimes};
 use crate::report::{
     CallableReport, InputPlace, LeafPath, ReportEdge, ReportEdgeKind, ReturnedLifetime,
 };
-use bridge_ast::lifetimes::Lifetime as WrittenLifetime;
-use bridge_ast::methods::{Method, Param};
-use bridge_ast::modules::{Item, Module};
-use bridge_ast::text::NoMemory;
-use bridge_ast::types::TypeName;
+use bridge_ast::{Item, Lifetime as WrittenLifetime, Method, Module, NoMemory, Param, TypeName};
 use hir_life::{Lifetime, LifetimeEnv};
 use sqlite_items::{Items, at};
 use std::alloc::Global;

@@ -1,20 +1,15 @@
 //! Which declarations are checked so far.
 
 ghost use Rattle.std.specs.Prelude.{◌≡◌, ◌↔◌, [], IsTrue, All};
-ghost use Rattle.bridge_ast.specs.declared.types.TypeName.{out-TypeName};
+ghost use Rattle.bridge_decl.specs.declared.types.TypeName.{out-TypeName};
 ghost use Rattle.bridge_read.specs.forms.Attrs.{no_attrs};
 ghost use Rattle.bridge_read.specs.forms.Docs.{no_docs};
 ghost use Rattle.bridge_tool.specs.Built.{AreBuilt, IsBorrow, IsBuiltBorrow, IsBuiltItem, IsBuiltMethod, IsBuiltModule, IsBuiltOpaque, IsBuiltParam, IsBuiltReceiver, IsBuiltReturn, IsBuiltSelf, IsBuiltSignature, IsBuiltType, IsGiven, IsNamed, IsPassed, IsPlain, IsReferenceTo, one_segment};
 
-use bridge_ast::attrs::Attrs;
-use bridge_ast::docs::Docs;
-use bridge_ast::lifetimes::Lifetime;
-use bridge_ast::methods::{Method, Param, SelfParam};
-use bridge_ast::modules::{Item, Module};
-use bridge_ast::paths::PathType;
-use bridge_ast::structs::OpaqueType;
-use bridge_ast::text::Text;
-use bridge_ast::types::{Mutability, TypeName};
+use bridge_ast::{
+    Attrs, Docs, Item, Lifetime, Method, Module, Mutability, OpaqueType, Param, PathType,
+    SelfParam, Text, TypeName,
+};
 
 fn has_no_attrs(attrs: &Attrs) -> bool
     ensures { IsTrue result ↔ (attrs.now ≡ no_attrs) }

@@ -2,17 +2,12 @@
 
 ghost use Rattle.std.specs.Prelude.{◌≡◌, option_to_list};
 ghost use Rattle.std.specs.Option.{option_copied};
-ghost use Rattle.bridge_ast.specs.declared.types.TypeName.{out-TypeName};
-ghost use Rattle.bridge_ast.specs.Names.{item_name};
+ghost use Rattle.bridge_decl.specs.declared.types.TypeName.{out-TypeName};
+ghost use Rattle.bridge_decl.specs.Names.{item_name};
 ghost use Rattle.bridge_tool.specs.Checks.{own_paths, type_paths, type_lifetimes, receiver_lifetimes};
 ghost use Rattle.bridge_tool.specs.Methods.{methods_of};
 
-use bridge_ast::lifetimes::Lifetime;
-use bridge_ast::methods::{Method, SelfParam};
-use bridge_ast::modules::Item;
-use bridge_ast::paths::PathType;
-use bridge_ast::text::Text;
-use bridge_ast::types::TypeName;
+use bridge_ast::{Item, Lifetime, Method, PathType, SelfParam, Text, TypeName};
 
 /// The name of an item.
 pub fn name_of(item: &Item) -> &Text

@@ -1,11 +1,10 @@
 //! The line that declines an input.
 
 ghost use Rattle.bridge_tool.specs.Declining.{at_pointer, fault_line, fault_place};
-ghost use Rattle.bridge_tool.specs.Printing.{Delivers, Prints};
+ghost use Rattle.bridge_outside.specs.Printing.{Delivers, Prints};
 
-use crate::printer::{Printer, finish, put_text};
-use crate::sink::{Sink, SinkFault};
-use bridge_read::fault::InputKind;
+use bridge_outside::{Printer, Sink, SinkFault, finish, put_text};
+use bridge_read::InputKind;
 
 fn put_pointer<K: Sink>(sink: &mut K, out: &mut Printer, pointer: &str)
     ensures { Prints K.taken K.faults sink.old out.old sink.new out.new (at_pointer pointer.now) }

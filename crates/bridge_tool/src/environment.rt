@@ -1,13 +1,11 @@
 //! The environment of a signature, as the walks over lifetimes take it.
 
 ghost use Rattle.std.specs.Prelude.{◌≡◌, IfOk};
-ghost use Rattle.bridge_ast.specs.Environments.{IsSoundEnvironment};
-ghost use Rattle.bridge_ast.specs.Ident.{IsIdent};
+ghost use Rattle.bridge_decl.specs.Environments.{IsSoundEnvironment};
+ghost use Rattle.bridge_decl.specs.Ident.{IsIdent};
 ghost use Rattle.bridge_tool.specs.Signature.{bounded, environment, HasNames};
 
-use bridge_ast::idents::{IdentBuf, IdentFault};
-use bridge_ast::lifetimes::{LifetimeEnv as Declared, LifetimeNode};
-use bridge_ast::text::NoMemory;
+use bridge_ast::{IdentBuf, IdentFault, LifetimeEnv as Declared, LifetimeNode, NoMemory};
 use hir_life::{BoundedLifetime, Lifetime, LifetimeEnv, LifetimeList};
 use sqlite_items::Items;
 use std::alloc::{AllocError, Global};

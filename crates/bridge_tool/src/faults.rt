@@ -1,8 +1,6 @@
 //! What is wrong with declarations, and where.
 
-use bridge_ast::lifetimes::LifetimeEnv;
-use bridge_ast::paths::PathType;
-use bridge_ast::text::Text;
+use bridge_ast::{LifetimeEnv, PathType, Text};
 
 /// The place of a part of declarations.
 #[derive(Clone, Copy)]

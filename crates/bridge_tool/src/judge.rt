@@ -5,9 +5,8 @@ ghost use Rattle.bridge_tool.specs.Judging.{Judges, JudgesModules};
 
 use crate::built::is_built;
 use crate::verdict::Verdict;
-use bridge_ast::environment::Env;
-use bridge_ast::text::NoMemory;
-use bridge_read::input::{InputFault, read_input};
+use bridge_ast::{Env, NoMemory};
+use bridge_read::{InputFault, read_input};
 use std::alloc::{AllocError, Global};
 
 /// The verdict on an environment that was read.

@@ -3,13 +3,12 @@
 ghost use Rattle.std.specs.Prelude.{◌≡◌, ◌≤◌, ◌++◌, true, false, List, ℕ, [], map, length, codes, option_map};
 ghost use Rattle.std.specs.List.{flat_map, join_by};
 ghost use Rattle.bridge_tool.specs.Lines.{after, arg_of, item_segments, lines, method_segments, place_text, report_text, reported, root_text, rule_name, rule_of, text_around};
-ghost use Rattle.bridge_tool.specs.Printing.{Prints, Delivers, separator_at};
+ghost use Rattle.bridge_outside.specs.Printing.{Prints, Delivers, separator_at};
 ghost use Rattle.bridge_tool.specs.Reports.{check_of, tested_of};
 
 use crate::faults::{At, Fault, Report};
-use crate::printer::{Printer, finish, put_number, put_separator, put_text};
-use crate::sink::{Sink, SinkFault};
-use bridge_ast::text::Text;
+use bridge_ast::Text;
+use bridge_outside::{Printer, Sink, SinkFault, finish, put_number, put_separator, put_text};
 
 /// A segment, after what stands before it in its list.
 fn put_segment<K: Sink>(sink: &mut K, out: &mut Printer, place: usize, segment: &Text)

@@ -3,22 +3,19 @@
 ghost use Rattle.std.specs.Prelude.{◌≡◌, ◌++◌, List, map, length, drop, codes, decimal};
 ghost use Rattle.std.specs.List.{flat_map, join_by};
 ghost use Rattle.std.specs.Option.{option_copied};
-ghost use Rattle.bridge_ast.specs.Names.{item_name};
+ghost use Rattle.bridge_decl.specs.Names.{item_name};
 ghost use Rattle.bridge_tool.specs.Borrows.{callables_of, callables_in, callables, callables_at};
 ghost use Rattle.bridge_tool.specs.Page.{input_text, path_text, edge_text, optional_text, opening, lifetime_text, paths_line, edges_line, returned_text, prefix_text, place_text, callable_text, text_with, callables_text, page_of};
 ghost use Rattle.bridge_tool.specs.Walking.{walk_order};
-ghost use Rattle.bridge_tool.specs.Printing.{Prints, Delivers, separator_at};
+ghost use Rattle.bridge_outside.specs.Printing.{Prints, Delivers, separator_at};
 ghost use Rattle.bridge_tool.specs.Methods.{methods_of};
 
 use crate::declarations::{methods, name_of};
-use crate::printer::{Printer, finish, put_number, put_separator, put_text};
 use crate::report::{
     CallableReport, InputPlace, LeafPath, ReportEdge, ReportEdgeKind, ReturnedLifetime,
 };
-use crate::sink::{Sink, SinkFault};
-use bridge_ast::methods::Method;
-use bridge_ast::modules::{Item, Module};
-use bridge_ast::text::Text;
+use bridge_ast::{Item, Method, Module, Text};
+use bridge_outside::{Printer, Sink, SinkFault, finish, put_number, put_separator, put_text};
 use sqlite_items::at;
 
 /// The name of an input.

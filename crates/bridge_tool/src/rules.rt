@@ -2,9 +2,9 @@
 
 ghost use Rattle.std.specs.Prelude.{◌≡◌, ◌<◌, ℕ, List, [], ◌∷◌, ◌++◌, map, OnOk, IfOk, MatchBool, length, Contains, All};
 ghost use Rattle.std.specs.List.{flat_map};
-ghost use Rattle.bridge_ast.specs.declared.modules.Module.{Module as Declared};
-ghost use Rattle.bridge_ast.specs.declared.types.TypeName.{out-TypeName};
-ghost use Rattle.bridge_ast.specs.Environments.{lifetime_names, IsSoundEnvironment};
+ghost use Rattle.bridge_decl.specs.declared.modules.Module.{Module as Declared};
+ghost use Rattle.bridge_decl.specs.declared.types.TypeName.{out-TypeName};
+ghost use Rattle.bridge_decl.specs.Environments.{lifetime_names, IsSoundEnvironment};
 ghost use Rattle.bridge_tool.specs.Checks.{name, path, lifetime, Fails, type_paths, type_lifetimes, lifetime_name, method_names, method_paths, method_lifetimes, receiver_paths, receiver_lifetimes, returned_paths, returned_lifetimes, tested_in_method, tested_in_item, tested_in_module, tested_in, tested_at_number};
 ghost use Rattle.bridge_tool.specs.Index.{Indexes};
 ghost use Rattle.bridge_tool.specs.Chosen.{Chosen};
@@ -15,14 +15,10 @@ ghost use Rattle.bridge_tool.specs.Methods.{HasSoundMethods, HasSoundItems};
 use crate::declarations::{methods, name_of, receiver_lifetime, written_lifetime, written_path};
 use crate::faults::{At, Fault, Report};
 use crate::index::{NameIndex, index_lifetimes};
-use bridge_ast::environment::Env;
-use bridge_ast::idents::is_ident;
-use bridge_ast::lifetimes::{Lifetime, LifetimeEnv, LifetimeNode};
-use bridge_ast::methods::{Method, Param, SelfParam};
-use bridge_ast::modules::{Item, Module};
-use bridge_ast::paths::PathType;
-use bridge_ast::text::{NoMemory, Text};
-use bridge_ast::types::TypeName;
+use bridge_ast::{
+    Env, Item, Lifetime, LifetimeEnv, LifetimeNode, Method, Module, NoMemory, Param, PathType,
+    SelfParam, Text, TypeName, is_ident,
+};
 use sqlite_items::at;
 use std::alloc::Global;
 

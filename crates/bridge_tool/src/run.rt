@@ -1,34 +1,30 @@
 //! The whole program over any source and any sink.
 
 ghost use Rattle.std.specs.Prelude.{◌≡◌, ◌≢◌, ◌≤◌, ◌<◌, ◌+◌, ◌^◌, ◌↔◌, ◌⊎◌, ℕ, List, length, map, IfSome, IsTrue};
-ghost use Rattle.bridge_ast.specs.declared.modules.Module.{Module as Declared};
+ghost use Rattle.bridge_decl.specs.declared.modules.Module.{Module as Declared};
 ghost use Rattle.bridge_ast.specs.Sound.{AreSound};
 ghost use Rattle.bridge_tool.specs.Judging.{Judges};
 ghost use Rattle.bridge_tool.specs.Breaks.{BreakNothing};
 ghost use Rattle.bridge_tool.specs.Checks.{tested_in};
 ghost use Rattle.bridge_tool.specs.Chosen.{Chosen};
 ghost use Rattle.bridge_tool.specs.Headline.{Headline, IsComplete, IsUndisturbed};
-ghost use Rattle.bridge_tool.specs.Outside.{Rose, left_after};
+ghost use Rattle.bridge_outside.specs.Outside.{Rose, left_after};
 ghost use Rattle.bridge_tool.specs.Reports.{TestFails, tested_of};
 ghost use Rattle.bridge_tool.specs.Walking.{walk_order};
 ghost use Rattle.bridge_tool.specs.Running.{Accepts, Answered, AreCommand, Declines, IsUnfinished, Ran, Refuses, Spells, Told, ended_with, world};
 
 use crate::borrow::reports_of;
-use crate::bytes::{ReadFault, read_all};
 use crate::decline::print_fault;
 use crate::faults::Report;
 use crate::judge::judge;
 use crate::lines::print_lines;
 use crate::page::print_page;
-use crate::printer::print_line;
 use crate::rules::faults_in;
-use crate::sink::{Sink, SinkFault};
-use crate::source::Source;
 use crate::status::Status;
 use crate::verdict::Verdict;
 use crate::walk::walk_order;
-use bridge_ast::environment::Env;
-use bridge_ast::modules::Module;
+use bridge_ast::{Env, Module};
+use bridge_outside::{ReadFault, Sink, SinkFault, Source, print_line, read_all};
 use std::alloc::{AllocError, Global};
 
 /// Whether the words are a command: none, or `check`.

@@ -4,5 +4,4 @@ mod declared;
 mod examples;
 mod inputs;
 mod modules;
-mod outside;
 mod running;

@@ -1,8 +1,7 @@
 //! What the bytes of an input are.
 
-use bridge_ast::environment::Env;
-use bridge_ast::text::Text;
-use bridge_read::fault::InputKind;
+use bridge_ast::{Env, Text};
+use bridge_read::InputKind;
 
 /// What the bytes of an input are.
 #[derive(Drop)]

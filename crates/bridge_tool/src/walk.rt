@@ -3,8 +3,7 @@
 ghost use Rattle.std.specs.Prelude.{◌≡◌, ◌++◌, IfOk, OnOk};
 ghost use Rattle.bridge_tool.specs.Walking.{at_depth, deepest, walk_order, where_there};
 
-use bridge_ast::modules::Module;
-use bridge_ast::text::NoMemory;
+use bridge_ast::{Module, NoMemory};
 use std::alloc::Global;
 
 /// The most segments that a path of the modules has.

@@ -3,5 +3,8 @@
 //! Named as in the crate `diplomat_core`, whose module `hir::attrs` this restates.
 #![tactic(auto)]
 
-pub mod support;
-pub mod validator;
+mod support;
+mod validator;
+
+pub use support::{BackendAttrSupport, SupportFlag};
+pub use validator::BasicAttributeValidator;

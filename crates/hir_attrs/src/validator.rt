@@ -4,8 +4,7 @@ ghost use Rattle.std.specs.Prelude.{◌≡◌, IfOk};
 ghost use Rattle.hir_attrs.specs.Validator.{plain_validator};
 
 use crate::support::BackendAttrSupport;
-use bridge_ast::clones::{clone_items, clone_texts};
-use bridge_ast::text::{NoMemory, Text};
+use bridge_decl::{NoMemory, Text, clone_items, clone_texts};
 use sqlite_items::Items;
 use std::alloc::Global;
 

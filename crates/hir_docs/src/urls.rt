@@ -4,7 +4,7 @@ ghost use Rattle.std.specs.Prelude.{◌≡◌, [], None};
 ghost use Rattle.std.specs.Option.{option_copied};
 ghost use Rattle.hir_docs.specs.Urls.{base_of};
 
-use bridge_ast::text::Text;
+use bridge_decl::Text;
 use std::alloc::Global;
 use std::collections::BTreeMap;
 use std::marker::Model;

@@ -1,8 +1,8 @@
 -- Lists of lifetimes, lowered one after another.
 use Rattle.std.proofs.Common.{◌≡◌, ◌⊎◌, inl, inr, arith, ℕ, suc, ◌+◌, ◌-◌, ◌<◌, List, [], ◌∷◌, ◌++◌, take, drop, get_or, length, replicate, Ok, Err, Result, refl, sym, ap, subst, ◌∙◌}
 use Rattle.std.proofs.lemmas.List.{drop_more, replicate-append-replicate, take-append-drop, take_more}
-use Rattle.bridge_ast.specs.declared.lifetimes.Lifetime.{Lifetime}
-use Rattle.bridge_ast.specs.declared.lifetimes.Lifetime.TheVariants as written
+use Rattle.bridge_decl.specs.declared.lifetimes.Lifetime.{Lifetime}
+use Rattle.bridge_decl.specs.declared.lifetimes.Lifetime.TheVariants as written
 use Rattle.hir_elide.specs.declared.fault.ElideFault.{ElideFault}
 use Rattle.hir_elide.specs.declared.fault.ElideFault.TheVariants as fault
 use Rattle.hir_elide.specs.Generics.{◌>>=◌, Tells, after_each, lowered_each}

@@ -3,10 +3,10 @@ use Rattle.std.proofs.Common.{◌≡◌, ℕ, ◌+◌, List, [], ◌∷◌, ◌+
 use Rattle.std.specs.Prelude.{Contains, IfOk}
 use Rattle.std.proofs.lemmas.List.{append-nil, length-map}
 use Rattle.std.proofs.lemmas.Simd.{map-map}
-use Rattle.bridge_ast.specs.declared.lifetimes.Lifetime.{Lifetime}
-use Rattle.bridge_ast.specs.declared.lifetimes.Lifetime.TheVariants as written
-use Rattle.bridge_ast.specs.declared.lifetimes.LifetimeEnv.{LifetimeEnv}
-use Rattle.bridge_ast.specs.Environments.{IsSoundEnvironment, declared_longer, declared_shorter}
+use Rattle.bridge_decl.specs.declared.lifetimes.Lifetime.{Lifetime}
+use Rattle.bridge_decl.specs.declared.lifetimes.Lifetime.TheVariants as written
+use Rattle.bridge_decl.specs.declared.lifetimes.LifetimeEnv.{LifetimeEnv}
+use Rattle.bridge_decl.specs.Environments.{IsSoundEnvironment, declared_longer, declared_shorter}
 use Rattle.hir_elide.specs.declared.numbering.Numbering.{Numbering}
 use Rattle.hir_elide.specs.declared.params.ParamLifetimeLowerer.{ParamLifetimeLowerer}
 use Rattle.hir_elide.specs.declared.returns.ReturnLifetimeLowerer.{ReturnLifetimeLowerer}

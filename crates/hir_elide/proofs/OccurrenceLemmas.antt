@@ -1,8 +1,8 @@
 -- One more lifetime of a signature is used.
 use Rattle.std.proofs.Common.{◌≡◌, ℕ, List, [], ◌∷◌, ◌++◌, refl, ap, sym, ◌∙◌, append_assoc}
 use Rattle.std.proofs.lemmas.List.{append-nil}
-use Rattle.bridge_ast.specs.declared.lifetimes.Lifetime.{Lifetime}
-use Rattle.bridge_ast.specs.declared.lifetimes.Lifetime.TheVariants as written
+use Rattle.bridge_decl.specs.declared.lifetimes.Lifetime.{Lifetime}
+use Rattle.bridge_decl.specs.declared.lifetimes.Lifetime.TheVariants as written
 use Rattle.hir_elide.specs.Occurrences.{Occurrence, anonymous_in, borrow_of, borrows, counted_of, counting, one_if_anonymous}
 
 swapped : (a b : Lifetime) (n : ℕ) → one_if_anonymous a (one_if_anonymous b n) ≡ one_if_anonymous b (one_if_anonymous a n)

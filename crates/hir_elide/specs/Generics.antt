@@ -1,7 +1,7 @@
 -- Lists of lifetimes: the generics that a path writes, filled up with anonymous ones to the number that its definition has.
 use Rattle.std.specs.Prelude.{◌≡◌, ℕ, ◌-◌, List, [], ◌∷◌, ◌++◌, length, replicate, Bool, true, false, Option, Some, None, Result, Ok, Err}
-use Rattle.bridge_ast.specs.declared.lifetimes.Lifetime.{Lifetime}
-use Rattle.bridge_ast.specs.declared.lifetimes.Lifetime.TheVariants as written
+use Rattle.bridge_decl.specs.declared.lifetimes.Lifetime.{Lifetime}
+use Rattle.bridge_decl.specs.declared.lifetimes.Lifetime.TheVariants as written
 use Rattle.hir_elide.specs.declared.fault.ElideFault.{ElideFault}
 use Rattle.hir_elide.specs.declared.fault.ElideFault.TheVariants as fault
 use Rattle.hir_elide.specs.Occurrences.{Own, Signature}

@@ -2,9 +2,9 @@
 -- `impl<'a> Foo<'a> { fn f(&self, x: &'a O, y: &O) -> &O }`: the borrow of the receiver, the `'a` of `Foo<'a>`, the `'a` of x,
 -- and the borrow of y.
 use Rattle.std.specs.Prelude.{ℕ, suc, List, [], ◌∷◌, ◌++◌, Option}
-use Rattle.bridge_ast.specs.declared.lifetimes.Lifetime.{Lifetime}
-use Rattle.bridge_ast.specs.declared.lifetimes.Lifetime.TheVariants as written
-use Rattle.bridge_ast.specs.declared.lifetimes.LifetimeEnv.{LifetimeEnv}
+use Rattle.bridge_decl.specs.declared.lifetimes.Lifetime.{Lifetime}
+use Rattle.bridge_decl.specs.declared.lifetimes.Lifetime.TheVariants as written
+use Rattle.bridge_decl.specs.declared.lifetimes.LifetimeEnv.{LifetimeEnv}
 use Rattle.hir_life.specs.declared.maybe_static.MaybeStatic.{MaybeStatic}
 
 -- where a lifetime is used: it is the receiver's borrow, or one of the generics of `Self`, or stands elsewhere in a parameter

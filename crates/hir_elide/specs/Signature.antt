@@ -1,8 +1,8 @@
 -- The environment of a signature, with the lifetimes that are declared and those that are used.
 use Rattle.std.specs.Prelude.{⊤, [], map, All, None}
-use Rattle.bridge_ast.specs.declared.lifetimes.LifetimeEnv.{LifetimeEnv}
-use Rattle.bridge_ast.specs.declared.lifetimes.LifetimeNode.{LifetimeNode}
-use Rattle.bridge_ast.specs.Ident.{IsIdent}
+use Rattle.bridge_decl.specs.declared.lifetimes.LifetimeEnv.{LifetimeEnv}
+use Rattle.bridge_decl.specs.declared.lifetimes.LifetimeNode.{LifetimeNode}
+use Rattle.bridge_decl.specs.Ident.{IsIdent}
 use Rattle.hir_life.specs.declared.bounds.BoundedLifetime.{BoundedLifetime}
 use Rattle.hir_life.specs.Environment.{Environment}
 use Rattle.hir_elide.specs.declared.fault.ElideFault.{ElideFault}

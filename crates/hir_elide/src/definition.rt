@@ -1,7 +1,7 @@
 //! The lifetimes of a definition's fields.
 
 ghost use Rattle.std.specs.Prelude.{◌≡◌, ◌≤◌, IfOk, length};
-ghost use Rattle.bridge_ast.specs.Environments.{IsSoundEnvironment, lifetime_names};
+ghost use Rattle.bridge_decl.specs.Environments.{IsSoundEnvironment, lifetime_names};
 ghost use Rattle.hir_elide.specs.Index.{number_of};
 ghost use Rattle.hir_elide.specs.Phases.{Defining};
 ghost use Rattle.hir_elide.specs.Signature.{begun};
@@ -10,8 +10,7 @@ use crate::fault::ElideFault;
 use crate::generics::lower_each;
 use crate::lowerer::{LifetimeLowerer, LowerLifetime};
 use crate::numbering::within_most;
-use bridge_ast::lifetimes::{Lifetime as Written, LifetimeEnv};
-use bridge_ast::text::Text;
+use bridge_decl::{Lifetime as Written, LifetimeEnv, Text};
 use hir_life::{Lifetime, Lifetimes, MaybeStatic};
 use std::alloc::Global;
 

@@ -1,12 +1,10 @@
 //! Declared lifetimes, as the walks over lifetimes take them.
 
 ghost use Rattle.std.specs.Prelude.{◌≡◌, IfOk, OnOk, IsErrOf, map};
-ghost use Rattle.bridge_ast.specs.Ident.{IsIdent};
+ghost use Rattle.bridge_decl.specs.Ident.{IsIdent};
 ghost use Rattle.hir_elide.specs.Signature.{bounded, HasIdents};
 
-use bridge_ast::idents::{IdentBuf, IdentFault};
-use bridge_ast::lifetimes::{LifetimeEnv, LifetimeNode};
-use bridge_ast::text::NoMemory;
+use bridge_decl::{IdentBuf, IdentFault, LifetimeEnv, LifetimeNode, NoMemory};
 use hir_life::{BoundedLifetime, Lifetime, LifetimeList};
 use sqlite_items::Items;
 use std::alloc::Global;

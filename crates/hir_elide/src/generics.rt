@@ -1,14 +1,14 @@
 //! Lists of lifetimes, lowered one after another.
 
 ghost use Rattle.std.specs.Prelude.{◌≡◌, ◌≤◌, ℕ, List, Ok, IfOk, length, replicate, ◌++◌};
-ghost use Rattle.bridge_ast.specs.declared.lifetimes.Lifetime.{Lifetime as Used};
-ghost use Rattle.bridge_ast.specs.declared.lifetimes.Lifetime.TheVariants as used_as;
+ghost use Rattle.bridge_decl.specs.declared.lifetimes.Lifetime.{Lifetime as Used};
+ghost use Rattle.bridge_decl.specs.declared.lifetimes.Lifetime.TheVariants as used_as;
 ghost use Rattle.hir_elide.specs.Generics.{Gives, filled, lowered_each, after_each};
 ghost use Rattle.hir_elide.specs.Occurrences.{Signature};
 
 use crate::fault::ElideFault;
 use crate::lowerer::LowerLifetime;
-use bridge_ast::lifetimes::Lifetime as Written;
+use bridge_decl::Lifetime as Written;
 use hir_life::Lifetimes;
 use std::alloc::Global;
 

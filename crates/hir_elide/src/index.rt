@@ -1,11 +1,10 @@
 //! Names by their places, so that no list of names is searched.
 
 ghost use Rattle.std.specs.Prelude.{◌≡◌, ℕ, List, [], ◌∷◌, ◌++◌, length, OnOk, IfOk};
-ghost use Rattle.bridge_ast.specs.Environments.{lifetime_names};
+ghost use Rattle.bridge_decl.specs.Environments.{lifetime_names};
 ghost use Rattle.hir_elide.specs.Index.{Indexes};
 
-use bridge_ast::lifetimes::LifetimeEnv;
-use bridge_ast::text::{NoMemory, Text};
+use bridge_decl::{LifetimeEnv, NoMemory, Text};
 use std::alloc::Global;
 use std::collections::BTreeMap;
 

@@ -6,7 +6,7 @@ ghost use Rattle.hir_elide.specs.Occurrences.{Signature};
 ghost use Rattle.hir_elide.specs.Phases.{Phase, lowered, after};
 
 use crate::fault::ElideFault;
-use bridge_ast::lifetimes::{Lifetime as Written, LifetimeEnv};
+use bridge_decl::{Lifetime as Written, LifetimeEnv};
 use hir_life::{Lifetime, Lifetimes, MaybeStatic};
 use std::alloc::Global;
 

@@ -1,8 +1,8 @@
 //! Numbers of lifetimes, as far as a signature was gone through.
 
 ghost use Rattle.std.specs.Prelude.{◌≡◌, ◌≤◌, IfOk, length};
-ghost use Rattle.bridge_ast.specs.Environments.{lifetime_names};
-ghost use Rattle.bridge_ast.specs.declared.lifetimes.Lifetime.TheVariants as written;
+ghost use Rattle.bridge_decl.specs.Environments.{lifetime_names};
+ghost use Rattle.bridge_decl.specs.declared.lifetimes.Lifetime.TheVariants as written;
 ghost use Rattle.hir_elide.specs.Generics.{Gives, filled, own_or_new, after_own, lowered_each, after_each, met};
 ghost use Rattle.hir_elide.specs.Index.{number_of};
 ghost use Rattle.hir_elide.specs.Numbering.{count_of, named, number_in, within_most};
@@ -14,8 +14,7 @@ use crate::fault::ElideFault;
 use crate::generics::lower_each;
 use crate::index::NameIndex;
 use crate::lowerer::LowerLifetime;
-use bridge_ast::lifetimes::{Lifetime as Written, LifetimeEnv};
-use bridge_ast::text::Text;
+use bridge_decl::{Lifetime as Written, LifetimeEnv, Text};
 use hir_life::{Lifetime, Lifetimes, MaybeStatic};
 use std::alloc::Global;
 

@@ -10,7 +10,7 @@ use crate::lowerer::{LifetimeLowerer, LowerLifetime};
 use crate::numbering::Numbering;
 use crate::returns::ReturnLifetimeLowerer;
 use crate::source::ElisionSource;
-use bridge_ast::lifetimes::{Lifetime as Written, LifetimeEnv};
+use bridge_decl::{Lifetime as Written, LifetimeEnv};
 use hir_life::{Lifetime, Lifetimes, MaybeStatic};
 use std::alloc::Global;
 

@@ -1,7 +1,7 @@
 //! The first phase of a signature: the borrow of its receiver.
 
 ghost use Rattle.std.specs.Prelude.{◌≡◌, ◌<◌, ◌↔◌, Ok, Err, IfOk, IfErr, OnOk, IsErrOf, length};
-ghost use Rattle.bridge_ast.specs.Environments.{IsSoundEnvironment};
+ghost use Rattle.bridge_decl.specs.Environments.{IsSoundEnvironment};
 ghost use Rattle.hir_elide.specs.Numbering.{most, number_in};
 ghost use Rattle.hir_elide.specs.Occurrences.{Borrow, Signature};
 ghost use Rattle.hir_elide.specs.Phases.{used};
@@ -14,8 +14,7 @@ use crate::index::index_lifetimes;
 use crate::numbering::{MOST, Numbering};
 use crate::params::ParamLifetimeLowerer;
 use crate::source::ElisionSource;
-use bridge_ast::idents::IdentFault;
-use bridge_ast::lifetimes::{Lifetime as Written, LifetimeEnv};
+use bridge_decl::{IdentFault, Lifetime as Written, LifetimeEnv};
 use hir_life::{Lifetime, MaybeStatic};
 use std::alloc::Global;
 

@@ -1,13 +1,12 @@
 //! Signatures and definitions, and what their lifetimes are lowered to.
 
 ghost use Rattle.std.specs.Prelude.{◌≡◌, IfOk, length};
-ghost use Rattle.bridge_ast.specs.Environments.{IsSoundEnvironment};
+ghost use Rattle.bridge_decl.specs.Environments.{IsSoundEnvironment};
 
 use crate::{
     DefinitionLowerer, ElideFault, LifetimeLowerer, LowerLifetime, SelfParamLifetimeLowerer,
 };
-use bridge_ast::lifetimes::{Lifetime as Written, LifetimeEnv, LifetimeNode};
-use bridge_ast::text::{NoMemory, Text};
+use bridge_decl::{Lifetime as Written, LifetimeEnv, LifetimeNode, NoMemory, Text};
 use hir_life::{Lifetime, MaybeStatic};
 use sqlite_items::Items;
 use std::alloc::Global;

@@ -3,8 +3,7 @@
 ghost use Rattle.std.specs.Prelude.{◌≡◌, [], ◌∷◌, ◌++◌, length, IfOk, OnOk, OnErr};
 
 use crate::lifetime_index::Lifetime;
-use bridge_ast::idents::IdentBuf;
-use bridge_ast::text::NoMemory;
+use bridge_decl::{IdentBuf, NoMemory};
 use smallvec::SmallVec;
 use std::alloc::Global;
 use std::marker::Model;

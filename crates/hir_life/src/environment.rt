@@ -11,7 +11,7 @@ use crate::lifetimes::Lifetimes;
 use crate::maybe_static::MaybeStatic;
 use crate::naming::LifetimeName;
 use crate::walks::{Direction, LifetimeTransitivityIterator};
-use bridge_ast::text::NoMemory;
+use bridge_decl::NoMemory;
 use sqlite_items::Items;
 use std::alloc::Global;
 use std::marker::Model;

@@ -4,7 +4,7 @@ ghost use Rattle.std.specs.Prelude.{◌≡◌, ℕ, ◌<◌, [], ◌∷◌, ◌+
 
 use crate::lifetime_index::Lifetime;
 use crate::maybe_static::MaybeStatic;
-use bridge_ast::text::NoMemory;
+use bridge_decl::NoMemory;
 use smallvec::SmallVec;
 use std::alloc::Global;
 use std::marker::Model;

@@ -6,7 +6,7 @@ ghost use Rattle.std.specs.Iterator.{Drains};
 use crate::environment::LifetimeEnv;
 use crate::lifetime_index::Lifetime;
 use crate::steps::Steps;
-use bridge_ast::text::NoMemory;
+use bridge_decl::NoMemory;
 use std::alloc::Global;
 use std::sync::ledger::Ledger;
 

@@ -4,7 +4,7 @@ ghost use Rattle.std.specs.Prelude.{◌<◌, IfOk};
 
 use crate::environment::LifetimeEnv;
 use crate::lifetime_index::Lifetime;
-use bridge_ast::text::NoMemory;
+use bridge_decl::NoMemory;
 use std::alloc::Global;
 
 impl LifetimeEnv {

@@ -12,7 +12,7 @@ use crate::lifetimes::Lifetimes;
 use crate::maybe_static::MaybeStatic;
 use crate::tests::counted::counted;
 use crate::walks::LifetimeTransitivityIterator;
-use bridge_ast::idents::IdentBuf;
+use bridge_decl::IdentBuf;
 use sqlite_items::Items;
 use std::alloc::Global;
 use std::marker::Brand;

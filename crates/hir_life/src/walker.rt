@@ -6,7 +6,7 @@ use crate::environment::LifetimeEnv;
 use crate::lifetime_index::Lifetime;
 use crate::reaching::{reach, reach_all};
 use crate::walks::Direction;
-use bridge_ast::text::NoMemory;
+use bridge_decl::NoMemory;
 use std::alloc::Global;
 use std::marker::Model;
 

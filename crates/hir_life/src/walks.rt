@@ -5,7 +5,7 @@ ghost use Rattle.std.specs.Prelude.{◌≡◌, ◌<◌, IfOk};
 use crate::environment::LifetimeEnv;
 use crate::lifetime_index::Lifetime;
 use crate::walker::Walker;
-use bridge_ast::text::NoMemory;
+use bridge_decl::NoMemory;
 use std::alloc::Global;
 use std::marker::Model;
 

@@ -1,7 +1,7 @@
 //! Where aliases lead. Each alias is looked through once, without recursion.
 
 ghost use Rattle.std.specs.Prelude.{◌≡◌, ◌≤◌, ◌<◌, ◌+◌, ◌↔◌, ◌⊎◌, ℕ, List, [], ◌∷◌, ◌++◌, OnOk, IfOk, IfNone, IfSome};
-ghost use Rattle.bridge_ast.specs.declared.modules.Module.{Module};
+ghost use Rattle.bridge_decl.specs.declared.modules.Module.{Module};
 ghost use Rattle.bridge_ast.specs.AliasEnds.{AreEnds, KnowsEnds, IsAlias};
 ghost use Rattle.bridge_ast.specs.Pairs.{HasPair};
 ghost use Rattle.bridge_ast.specs.Scopes.{Knows};
@@ -9,8 +9,7 @@ ghost use Rattle.bridge_ast.specs.Searches.{IsFrame, IsSearch, IsWaiting, Progre
 
 use super::scopes::Scope;
 use super::walk::{Advance, Ends, Head, Stand, Walk, take_segment, target_of};
-use crate::modules::Module;
-use crate::text::NoMemory;
+use bridge_decl::{Module, NoMemory};
 use std::alloc::Global;
 use std::collections::{BTreeMap, BTreeSet};
 

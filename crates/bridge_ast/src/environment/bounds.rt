@@ -4,15 +4,14 @@ ghost use Rattle.std.specs.Prelude.{◌≡◌, ℕ, List, [], ◌∷◌, ◌++�
 ghost use Rattle.std.specs.Prelude.{slice_index_or, slice_set, IfOk, OnOk};
 ghost use Rattle.std.specs.List.{list_all};
 ghost use Rattle.std.specs.List.Sorted.{IsNonDecreasing};
-ghost use Rattle.bridge_ast.specs.declared.lifetimes.LifetimeNode.{LifetimeNode};
+ghost use Rattle.bridge_decl.specs.declared.lifetimes.LifetimeNode.{LifetimeNode};
 ghost use Rattle.bridge_ast.specs.declared.environment.bounds.Side.TheVariants.{Longer, Shorter};
 ghost use Rattle.bridge_ast.specs.Bounds.{listed, in_range, answered, has_number};
 ghost use Rattle.bridge_ast.specs.BoundLists.{AddsToEach, AreListers, HasBounds};
 ghost use Rattle.bridge_ast.specs.EnvFaults.{Tells, bound_faults, where_so};
 
 use super::fault::{EnvFault, EnvFaultKind, EnvPlace};
-use crate::lifetimes::LifetimeNode;
-use crate::text::NoMemory;
+use bridge_decl::{LifetimeNode, NoMemory};
 use sqlite_items::Items;
 use std::alloc::Global;
 

@@ -1,23 +1,19 @@
 //! The items and aliases of a module, by their names and the lifetimes in them.
 
 ghost use Rattle.std.specs.Prelude.{◌≡◌, ℕ, List, [], ◌∷◌, ◌++◌, map, None, OnOk, IfOk};
-ghost use Rattle.bridge_ast.specs.declared.modules.Item.{Item};
+ghost use Rattle.bridge_decl.specs.declared.modules.Item.{Item};
 ghost use Rattle.bridge_ast.specs.declared.environment.fault.EnvPart.TheVariants as part;
 ghost use Rattle.bridge_ast.specs.Each.{each};
 ghost use Rattle.bridge_ast.specs.EnvFaults.{Named, Tells, repeats_name, nodes_of, method_nodes_of, lifetime_faults};
 ghost use Rattle.bridge_ast.specs.EnvFaults.{method_faults, item_faults, alias_faults, items_named, aliases_named};
 ghost use Rattle.bridge_ast.specs.EnvFaults.{content_faults, named_in};
 ghost use Rattle.bridge_ast.specs.Index.{Indexes};
-ghost use Rattle.bridge_ast.specs.Names.{item_name};
+ghost use Rattle.bridge_decl.specs.Names.{item_name};
 
 use super::fault::{EnvFault, EnvFaultKind, EnvPart, EnvPlace};
 use super::names::{NameIndex, claim};
 use super::nodes::{Owner, test_lifetimes};
-use crate::lifetimes::LifetimeNode;
-use crate::methods::Method;
-use crate::modules::{Alias, Item, Module};
-use crate::text::Text;
-use crate::traits::TraitMethod;
+use bridge_decl::{Alias, Item, LifetimeNode, Method, Module, Text, TraitMethod};
 use std::alloc::Global;
 use std::collections::BTreeMap;
 

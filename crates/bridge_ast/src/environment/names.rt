@@ -5,7 +5,7 @@ ghost use Rattle.bridge_ast.specs.EnvFaults.{Named, Tells, part_named, repeats_n
 ghost use Rattle.bridge_ast.specs.Index.{Indexes};
 
 use super::fault::{EnvFault, EnvFaultKind, EnvPart, EnvPlace};
-use crate::text::{NoMemory, Text};
+use bridge_decl::{NoMemory, Text};
 use std::alloc::Global;
 use std::collections::BTreeMap;
 

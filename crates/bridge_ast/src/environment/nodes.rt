@@ -1,7 +1,7 @@
 //! The lifetimes that a declaration has of its own, by their names and bounds.
 
 ghost use Rattle.std.specs.Prelude.{◌≡◌, ℕ, List, [], ◌∷◌, ◌++◌, ◌<◌, length, OnOk};
-ghost use Rattle.bridge_ast.specs.declared.lifetimes.LifetimeNode.{LifetimeNode};
+ghost use Rattle.bridge_decl.specs.declared.lifetimes.LifetimeNode.{LifetimeNode};
 ghost use Rattle.bridge_ast.specs.declared.environment.fault.EnvPart.TheVariants as part;
 ghost use Rattle.bridge_ast.specs.BoundLists.{HasBounds};
 ghost use Rattle.bridge_ast.specs.EnvFaults.{Named, Tells, place, repeats_name, bound_faults, lifetime_faults};
@@ -10,7 +10,7 @@ ghost use Rattle.bridge_ast.specs.Index.{Indexes};
 use super::bounds::{BoundLists, bound_lists, test_bounds};
 use super::fault::{EnvFault, EnvFaultKind, EnvPart, EnvPlace};
 use super::names::{NameIndex, claim};
-use crate::lifetimes::LifetimeNode;
+use bridge_decl::LifetimeNode;
 use std::alloc::Global;
 use std::collections::BTreeMap;
 

@@ -3,19 +3,15 @@
 ghost use Rattle.std.specs.Prelude.{◌≡◌, ◌<◌, ◌↔◌, ℕ, List, length, None, Some, option_and_then};
 ghost use Rattle.std.specs.Option.{option_copied};
 ghost use Rattle.bridge_ast.specs.declared.environment.walk.ItemPlace.{ItemPlace};
-ghost use Rattle.bridge_ast.specs.declared.modules.Item.{Item};
-ghost use Rattle.bridge_ast.specs.declared.traits.Trait.{Trait};
+ghost use Rattle.bridge_decl.specs.declared.modules.Item.{Item};
+ghost use Rattle.bridge_decl.specs.declared.traits.Trait.{Trait};
 ghost use Rattle.bridge_ast.specs.Paths.{NamesItem};
 ghost use Rattle.bridge_ast.specs.Resolution.{named_item};
 ghost use Rattle.bridge_ast.specs.Types.{NamesType, NamesTrait, item_of, as_type, as_trait, type_seen, trait_seen, named_type, named_trait};
 
 use super::Env;
 use super::walk::{ItemPlace, Stand, follow};
-use crate::enums::Enum;
-use crate::modules::{Item, Module};
-use crate::paths::PathType;
-use crate::structs::{OpaqueType, Struct};
-use crate::traits::Trait;
+use bridge_decl::{Enum, Item, Module, OpaqueType, PathType, Struct, Trait};
 use sqlite_items::at;
 
 /// A type of an environment, with its place.

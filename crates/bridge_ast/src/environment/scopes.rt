@@ -3,7 +3,7 @@
 ghost use Rattle.std.specs.Prelude.{◌≡◌, ℕ, List, [], ◌∷◌, ◌++◌, ◌<◌, length, slice_get, option_map, None, Some, IfOk, IfSome};
 ghost use Rattle.std.specs.Prelude.{OnOk, MatchOption};
 ghost use Rattle.std.specs.Option.{ForSome};
-ghost use Rattle.bridge_ast.specs.declared.modules.Module.{Module};
+ghost use Rattle.bridge_decl.specs.declared.modules.Module.{Module};
 ghost use Rattle.bridge_ast.specs.declared.environment.fault.EnvPart.TheVariants as part;
 ghost use Rattle.bridge_ast.specs.EnvFaults.{Tells, place, repeats, module_at, named_at, part_named, path_faults};
 ghost use Rattle.bridge_ast.specs.EnvFaults.{submodule_faults, faults_of};
@@ -12,8 +12,7 @@ ghost use Rattle.bridge_ast.specs.Scopes.{Knows, IsParent, AddsUnder, Enters};
 use super::fault::{EnvFault, EnvFaultKind, EnvPart, EnvPlace};
 use super::items::test_contents;
 use super::names::NameIndex;
-use crate::modules::Module;
-use crate::text::{NoMemory, Text};
+use bridge_decl::{Module, NoMemory, Text};
 use sqlite_items::at;
 use std::alloc::Global;
 use std::collections::BTreeMap;

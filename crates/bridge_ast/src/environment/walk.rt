@@ -3,15 +3,14 @@
 ghost use Rattle.std.specs.Prelude.{◌≡◌, ◌<◌, ◌^◌, ℕ, List, [], map, slice_index_or, None, Some};
 ghost use Rattle.bridge_ast.specs.AliasEnds.{AliasAdvances, Advances, AreEnds, KnowsEnds, IsAlias};
 ghost use Rattle.bridge_ast.specs.Resolution.{next_of, by_name, to_part, to_parent, path_at, target_at};
-ghost use Rattle.bridge_ast.specs.declared.modules.Module.{Module};
+ghost use Rattle.bridge_decl.specs.declared.modules.Module.{Module};
 ghost use Rattle.bridge_ast.specs.EnvFaults.{parent_and_last};
 ghost use Rattle.bridge_ast.specs.Scopes.{Knows};
 ghost use Rattle.bridge_ast.specs.Walks.{carried_to_end, leads_within, IsInside, IsModule};
 
 use super::fault::EnvPart;
 use super::scopes::{Scope, part_of, submodule_of};
-use crate::modules::{Alias, Module};
-use crate::text::Text;
+use bridge_decl::{Alias, Module, Text};
 use sqlite_items::at;
 use std::collections::BTreeMap;
 

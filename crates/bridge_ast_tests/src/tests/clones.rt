@@ -1,11 +1,4 @@
-use bridge_ast::attrs::{Attrs, DiplomatBackendAttrCfg, RenameAttr};
-use bridge_ast::docs::{DocBlock, Docs};
-use bridge_ast::functions::Function;
-use bridge_ast::lifetimes::{Lifetime, LifetimeEnv};
-use bridge_ast::modules::{Item, Module};
-use bridge_ast::text::{NoMemory, Text};
-use bridge_ast::types::{Mutability, PrimitiveType, StdlibOrDiplomat, TypeName};
-use bridge_ast::{Boxed, Items};
+use bridge_ast::{Attrs, Boxed, DiplomatBackendAttrCfg, DocBlock, Docs, Function, Item, Items, Lifetime, LifetimeEnv, Module, Mutability, NoMemory, PrimitiveType, RenameAttr, StdlibOrDiplomat, Text, TypeName};
 use std::alloc::Global;
 
 const DEPTH: usize = 40;

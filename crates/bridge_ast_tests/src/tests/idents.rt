@@ -1,5 +1,4 @@
-use bridge_ast::idents::{IdentBuf, IdentFault, is_ident};
-use bridge_ast::text::NoMemory;
+use bridge_ast::{IdentBuf, IdentFault, NoMemory, is_ident};
 
 // Each with whether it is an identifier.
 const CASES: [(&str, bool); 34] = [

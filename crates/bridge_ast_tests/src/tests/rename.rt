@@ -1,6 +1,4 @@
-use bridge_ast::attrs::AttrInheritContext;
-use bridge_ast::rename::{RenameAttr, RenameFault};
-use bridge_ast::text::NoMemory;
+use bridge_ast::{AttrInheritContext, NoMemory, RenameAttr, RenameFault};
 use std::alloc::Global;
 
 // Patterns with what each makes of the name `f`, and whether it is handed on.

@@ -1,12 +1,12 @@
 -- The laws of the forms of specs/forms/Attrs.
 use Rattle.std.specs.Prelude.{ℕ, zero, suc, List, [], Option, None}
-use Rattle.bridge_ast.specs.declared.attrs.Attrs.{Attrs}
-use Rattle.bridge_ast.specs.declared.attrs.Assign.{Assign}
-use Rattle.bridge_ast.specs.declared.attrs.DiplomatBackendAttr.{DiplomatBackendAttr}
-use Rattle.bridge_ast.specs.declared.attrs.DiplomatBackendAttrCfg.{DiplomatBackendAttrCfg}
-use Rattle.bridge_ast.specs.declared.attrs.DiplomatBackendAttrCfg.TheVariants as cfg
-use Rattle.bridge_ast.specs.declared.attrs.Lit.{Lit}
-use Rattle.bridge_ast.specs.declared.attrs.Lit.TheVariants as lit
+use Rattle.bridge_decl.specs.declared.attrs.Attrs.{Attrs}
+use Rattle.bridge_decl.specs.declared.attrs.Assign.{Assign}
+use Rattle.bridge_decl.specs.declared.attrs.DiplomatBackendAttr.{DiplomatBackendAttr}
+use Rattle.bridge_decl.specs.declared.attrs.DiplomatBackendAttrCfg.{DiplomatBackendAttrCfg}
+use Rattle.bridge_decl.specs.declared.attrs.DiplomatBackendAttrCfg.TheVariants as cfg
+use Rattle.bridge_decl.specs.declared.attrs.Lit.{Lit}
+use Rattle.bridge_decl.specs.declared.attrs.Lit.TheVariants as lit
 use Rattle.bridge_read.specs.declared.keys.Key.{Key}
 use Rattle.bridge_read.specs.declared.keys.Key.TheVariants as key
 use Rattle.bridge_read.specs.forms.Attrs.{condition_called, condition_word, pair_condition, condition_keys, condition_within, condition, sole_char, digits_of, digits, literal_called, literal_word, any_float, literal_under, literal_keys, literal, assign_of, assign, mark_by, self, mark, pattern_of, pattern, attrs_of, attrs, condition_under}

@@ -1,11 +1,11 @@
 -- The laws of the forms of specs/forms/Docs.
 use Rattle.std.specs.Prelude.{[]}
-use Rattle.bridge_ast.specs.declared.docs.Docs.{Docs}
-use Rattle.bridge_ast.specs.declared.docs.DocBlock.{DocBlock}
-use Rattle.bridge_ast.specs.declared.docs.DocType.{DocType}
-use Rattle.bridge_ast.specs.declared.docs.RustLink.{RustLink}
-use Rattle.bridge_ast.specs.declared.docs.RustLinkDisplay.{RustLinkDisplay}
-use Rattle.bridge_ast.specs.declared.attrs.Attrs.{Attrs}
+use Rattle.bridge_decl.specs.declared.docs.Docs.{Docs}
+use Rattle.bridge_decl.specs.declared.docs.DocBlock.{DocBlock}
+use Rattle.bridge_decl.specs.declared.docs.DocType.{DocType}
+use Rattle.bridge_decl.specs.declared.docs.RustLink.{RustLink}
+use Rattle.bridge_decl.specs.declared.docs.RustLinkDisplay.{RustLinkDisplay}
+use Rattle.bridge_decl.specs.declared.attrs.Attrs.{Attrs}
 use Rattle.bridge_read.specs.declared.keys.Key.TheVariants as key
 use Rattle.bridge_read.specs.Words.{doc_text, every_doc, display_text, every_display}
 use Rattle.bridge_read.specs.forms.Docs.{block_of, block, doc_kind, display, link_of, link, docs_of, docs, no_docs, about_of, documented}

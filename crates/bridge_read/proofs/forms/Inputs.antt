@@ -1,6 +1,6 @@
 -- The laws of the form of a whole input.
 use Rattle.std.specs.Prelude.{List}
-use Rattle.bridge_ast.specs.declared.modules.Module.{Module}
+use Rattle.bridge_decl.specs.declared.modules.Module.{Module}
 use Rattle.bridge_read.specs.declared.keys.Key.TheVariants as key
 use Rattle.bridge_read.specs.forms.Inputs.{declared_of, no_backend, whole}
 use Rattle.bridge_read.specs.forms.Modules.{root}

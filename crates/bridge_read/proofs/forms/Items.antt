@@ -1,8 +1,8 @@
 -- The laws of the forms of specs/forms/Items.
 use Rattle.std.specs.Prelude.{[], Bool, true, false}
-use Rattle.bridge_ast.specs.declared.enums.Variant.{Variant}
-use Rattle.bridge_ast.specs.declared.modules.Item.{Item}
-use Rattle.bridge_ast.specs.declared.structs.Field.{Field}
+use Rattle.bridge_decl.specs.declared.enums.Variant.{Variant}
+use Rattle.bridge_decl.specs.declared.modules.Item.{Item}
+use Rattle.bridge_decl.specs.declared.structs.Field.{Field}
 use Rattle.bridge_read.specs.declared.keys.Key.TheVariants as key
 use Rattle.bridge_read.specs.declared.words.ItemKind.{ItemKind}
 use Rattle.bridge_read.specs.declared.words.ItemKind.TheVariants as kind

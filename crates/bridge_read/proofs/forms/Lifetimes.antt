@@ -1,9 +1,9 @@
 -- The laws of the forms of specs/forms/Lifetimes.
 use Rattle.std.specs.Prelude.{[], false}
-use Rattle.bridge_ast.specs.declared.lifetimes.Lifetime.{Lifetime}
-use Rattle.bridge_ast.specs.declared.lifetimes.LifetimeNode.{LifetimeNode}
-use Rattle.bridge_ast.specs.declared.paths.PathType.{PathType}
-use Rattle.bridge_ast.specs.declared.types.Mutability.{Mutability}
+use Rattle.bridge_decl.specs.declared.lifetimes.Lifetime.{Lifetime}
+use Rattle.bridge_decl.specs.declared.lifetimes.LifetimeNode.{LifetimeNode}
+use Rattle.bridge_decl.specs.declared.paths.PathType.{PathType}
+use Rattle.bridge_decl.specs.declared.types.Mutability.{Mutability}
 use Rattle.bridge_read.specs.declared.keys.Key.TheVariants as key
 use Rattle.bridge_read.specs.forms.Lifetimes.{lifetime_called, lifetime, node_of, node, reference_of, reference, path_of, path}
 use Rattle.bridge_read.proofs.FormLaws.{Lawful}

@@ -1,10 +1,10 @@
 -- The laws of the forms of specs/forms/Methods.
 use Rattle.std.specs.Prelude.{[]}
-use Rattle.bridge_ast.specs.declared.methods.Method.{Method}
-use Rattle.bridge_ast.specs.declared.methods.Param.{Param}
-use Rattle.bridge_ast.specs.declared.methods.SelfParam.{SelfParam}
-use Rattle.bridge_ast.specs.declared.traits.TraitMethod.{TraitMethod}
-use Rattle.bridge_ast.specs.declared.traits.TraitSelfParam.{TraitSelfParam}
+use Rattle.bridge_decl.specs.declared.methods.Method.{Method}
+use Rattle.bridge_decl.specs.declared.methods.Param.{Param}
+use Rattle.bridge_decl.specs.declared.methods.SelfParam.{SelfParam}
+use Rattle.bridge_decl.specs.declared.traits.TraitMethod.{TraitMethod}
+use Rattle.bridge_decl.specs.declared.traits.TraitSelfParam.{TraitSelfParam}
 use Rattle.bridge_read.specs.declared.keys.Key.TheVariants as key
 use Rattle.bridge_read.specs.declared.methods.MethodHead.{MethodHead}
 use Rattle.bridge_read.specs.declared.methods.Signature.{Signature}

@@ -1,7 +1,7 @@
 -- The laws of the forms of specs/forms/Modules.
 use Rattle.std.specs.Prelude.{ℕ, zero, suc, List, []}
-use Rattle.bridge_ast.specs.declared.modules.Alias.{Alias}
-use Rattle.bridge_ast.specs.declared.modules.Module.{Module}
+use Rattle.bridge_decl.specs.declared.modules.Alias.{Alias}
+use Rattle.bridge_decl.specs.declared.modules.Module.{Module}
 use Rattle.bridge_read.specs.declared.keys.Key.TheVariants as key
 use Rattle.bridge_read.specs.declared.modules.Contents.{Contents}
 use Rattle.bridge_read.specs.forms.Modules.{alias_of, alias, contents_of, contents, joined, module_of, module_at, nothing_of, any_text, path_in, module_parts, module_within, nested_in, root}

@@ -1,13 +1,13 @@
 -- The laws of the forms of specs/forms/Types.
 use Rattle.std.specs.Prelude.{ℕ, zero, suc, [], Bool, false, Option}
-use Rattle.bridge_ast.specs.declared.lifetimes.Lifetime.{Lifetime}
-use Rattle.bridge_ast.specs.declared.types.Mutability.{Mutability}
-use Rattle.bridge_ast.specs.declared.types.PrimitiveType.{PrimitiveType}
-use Rattle.bridge_ast.specs.declared.types.StringEncoding.{StringEncoding}
-use Rattle.bridge_ast.specs.declared.types.StdlibOrDiplomat.TheVariants.{Stdlib, Diplomat}
-use Rattle.bridge_ast.specs.declared.types.WriteType.{WriteType}
-use Rattle.bridge_ast.specs.declared.types.TypeName.{TypeName}
-use Rattle.bridge_ast.specs.declared.types.TypeName.TheVariants as type
+use Rattle.bridge_decl.specs.declared.lifetimes.Lifetime.{Lifetime}
+use Rattle.bridge_decl.specs.declared.types.Mutability.{Mutability}
+use Rattle.bridge_decl.specs.declared.types.PrimitiveType.{PrimitiveType}
+use Rattle.bridge_decl.specs.declared.types.StringEncoding.{StringEncoding}
+use Rattle.bridge_decl.specs.declared.types.StdlibOrDiplomat.TheVariants.{Stdlib, Diplomat}
+use Rattle.bridge_decl.specs.declared.types.WriteType.{WriteType}
+use Rattle.bridge_decl.specs.declared.types.TypeName.{TypeName}
+use Rattle.bridge_decl.specs.declared.types.TypeName.TheVariants as type
 use Rattle.bridge_read.specs.declared.keys.Key.{Key}
 use Rattle.bridge_read.specs.declared.keys.Key.TheVariants as key
 use Rattle.bridge_read.specs.Words.{primitive_text, every_primitive, encoding_text, every_encoding}

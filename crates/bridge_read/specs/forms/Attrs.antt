@@ -1,16 +1,16 @@
 -- Attributes: conditions, literals and marks.
 use Rattle.std.specs.Prelude.{ℕ, zero, suc, List, [], ◌∷◌, codes, length, ◌==◌, nat_lt, Bool, true, false, Option, Some, None, if◌then◌else◌}
 use Rattle.std.specs.Str.{bytes_eq, chars, all_ascii_digits}
-use Rattle.bridge_ast.specs.Rename.{placeholder_count}
-use Rattle.bridge_ast.specs.declared.attrs.Attrs.{Attrs}
-use Rattle.bridge_ast.specs.declared.attrs.Assign.{Assign}
-use Rattle.bridge_ast.specs.declared.attrs.DiplomatBackendAttr.{DiplomatBackendAttr}
-use Rattle.bridge_ast.specs.declared.attrs.DiplomatBackendAttrCfg.{DiplomatBackendAttrCfg}
-use Rattle.bridge_ast.specs.declared.attrs.DiplomatBackendAttrCfg.TheVariants as cfg
-use Rattle.bridge_ast.specs.declared.attrs.Lit.{Lit}
-use Rattle.bridge_ast.specs.declared.attrs.Lit.TheVariants as lit
-use Rattle.bridge_ast.specs.declared.attrs.MetaValue.{MetaValue}
-use Rattle.bridge_ast.specs.declared.attrs.MetaValue.TheVariants.{Empty, Literal, Assignments}
+use Rattle.bridge_decl.specs.Rename.{placeholder_count}
+use Rattle.bridge_decl.specs.declared.attrs.Attrs.{Attrs}
+use Rattle.bridge_decl.specs.declared.attrs.Assign.{Assign}
+use Rattle.bridge_decl.specs.declared.attrs.DiplomatBackendAttr.{DiplomatBackendAttr}
+use Rattle.bridge_decl.specs.declared.attrs.DiplomatBackendAttrCfg.{DiplomatBackendAttrCfg}
+use Rattle.bridge_decl.specs.declared.attrs.DiplomatBackendAttrCfg.TheVariants as cfg
+use Rattle.bridge_decl.specs.declared.attrs.Lit.{Lit}
+use Rattle.bridge_decl.specs.declared.attrs.Lit.TheVariants as lit
+use Rattle.bridge_decl.specs.declared.attrs.MetaValue.{MetaValue}
+use Rattle.bridge_decl.specs.declared.attrs.MetaValue.TheVariants.{Empty, Literal, Assignments}
 use Rattle.bridge_read.specs.declared.keys.Key.{Key}
 use Rattle.bridge_read.specs.declared.keys.Key.TheVariants as key
 use Rattle.bridge_read.specs.Form.{Form, object_with, made, ◌&◌, needs, may_be, may_have, refined, mapped, word_or, one_of, never, list, some_list, two, text, flag, byte}

@@ -1,12 +1,12 @@
 -- The documentation of a declaration.
 use Rattle.std.specs.Prelude.{ℕ, List, []}
-use Rattle.bridge_ast.specs.declared.docs.Docs.{Docs}
-use Rattle.bridge_ast.specs.declared.docs.DocBlock.{DocBlock}
-use Rattle.bridge_ast.specs.declared.docs.DocType.{DocType}
-use Rattle.bridge_ast.specs.declared.docs.RustLink.{RustLink}
-use Rattle.bridge_ast.specs.declared.docs.RustLinkDisplay.{RustLinkDisplay}
-use Rattle.bridge_ast.specs.declared.attrs.Attrs.{Attrs}
-use Rattle.bridge_ast.specs.declared.attrs.DiplomatBackendAttrCfg.{DiplomatBackendAttrCfg}
+use Rattle.bridge_decl.specs.declared.docs.Docs.{Docs}
+use Rattle.bridge_decl.specs.declared.docs.DocBlock.{DocBlock}
+use Rattle.bridge_decl.specs.declared.docs.DocType.{DocType}
+use Rattle.bridge_decl.specs.declared.docs.RustLink.{RustLink}
+use Rattle.bridge_decl.specs.declared.docs.RustLinkDisplay.{RustLinkDisplay}
+use Rattle.bridge_decl.specs.declared.attrs.Attrs.{Attrs}
+use Rattle.bridge_decl.specs.declared.attrs.DiplomatBackendAttrCfg.{DiplomatBackendAttrCfg}
 use Rattle.bridge_read.specs.declared.keys.Key.TheVariants as key
 use Rattle.bridge_read.specs.Form.{Form, Parts, object_with, made, ◌&◌, needs, may_be, list, text, one_word}
 use Rattle.bridge_read.specs.Words.{doc_text, every_doc, display_text, every_display}

@@ -1,15 +1,15 @@
 -- Items: an object whose other keys depend on its kind.
 use Rattle.std.specs.Prelude.{ℕ, ℤ, List, [], Bool, true, false, Option}
-use Rattle.bridge_ast.specs.declared.attrs.Attrs.{Attrs}
-use Rattle.bridge_ast.specs.declared.docs.Docs.{Docs}
-use Rattle.bridge_ast.specs.declared.enums.Variant.{Variant}
-use Rattle.bridge_ast.specs.declared.lifetimes.LifetimeNode.{LifetimeNode}
-use Rattle.bridge_ast.specs.declared.methods.Method.{Method}
-use Rattle.bridge_ast.specs.declared.modules.Item.{Item}
-use Rattle.bridge_ast.specs.declared.modules.Item.TheVariants as item
-use Rattle.bridge_ast.specs.declared.structs.Field.{Field}
-use Rattle.bridge_ast.specs.declared.traits.TraitMethod.{TraitMethod}
-use Rattle.bridge_ast.specs.declared.types.TypeName.{TypeName}
+use Rattle.bridge_decl.specs.declared.attrs.Attrs.{Attrs}
+use Rattle.bridge_decl.specs.declared.docs.Docs.{Docs}
+use Rattle.bridge_decl.specs.declared.enums.Variant.{Variant}
+use Rattle.bridge_decl.specs.declared.lifetimes.LifetimeNode.{LifetimeNode}
+use Rattle.bridge_decl.specs.declared.methods.Method.{Method}
+use Rattle.bridge_decl.specs.declared.modules.Item.{Item}
+use Rattle.bridge_decl.specs.declared.modules.Item.TheVariants as item
+use Rattle.bridge_decl.specs.declared.structs.Field.{Field}
+use Rattle.bridge_decl.specs.declared.traits.TraitMethod.{TraitMethod}
+use Rattle.bridge_decl.specs.declared.types.TypeName.{TypeName}
 use Rattle.bridge_read.specs.declared.methods.Signature.{Signature}
 use Rattle.bridge_read.specs.declared.keys.Key.TheVariants as key
 use Rattle.bridge_read.specs.declared.words.ItemKind.{ItemKind}

@@ -1,12 +1,12 @@
 -- Lifetimes, references and paths.
 use Rattle.std.specs.Prelude.{ℕ, List, [], codes, Bool, true, false, if◌then◌else◌}
 use Rattle.std.specs.Str.{bytes_eq}
-use Rattle.bridge_ast.specs.declared.lifetimes.Lifetime.{Lifetime}
-use Rattle.bridge_ast.specs.declared.lifetimes.Lifetime.TheVariants.{Static, Named, Anonymous}
-use Rattle.bridge_ast.specs.declared.lifetimes.LifetimeNode.{LifetimeNode}
-use Rattle.bridge_ast.specs.declared.paths.PathType.{PathType}
-use Rattle.bridge_ast.specs.declared.types.Mutability.{Mutability}
-use Rattle.bridge_ast.specs.declared.types.Mutability.TheVariants.{Mutable, Immutable}
+use Rattle.bridge_decl.specs.declared.lifetimes.Lifetime.{Lifetime}
+use Rattle.bridge_decl.specs.declared.lifetimes.Lifetime.TheVariants.{Static, Named, Anonymous}
+use Rattle.bridge_decl.specs.declared.lifetimes.LifetimeNode.{LifetimeNode}
+use Rattle.bridge_decl.specs.declared.paths.PathType.{PathType}
+use Rattle.bridge_decl.specs.declared.types.Mutability.{Mutability}
+use Rattle.bridge_decl.specs.declared.types.Mutability.TheVariants.{Mutable, Immutable}
 use Rattle.bridge_read.specs.declared.keys.Key.TheVariants as key
 use Rattle.bridge_read.specs.Form.{Form, object_with, made, ◌&◌, needs, may_be, list, some_list, text, number_form, flag, mapped}
 

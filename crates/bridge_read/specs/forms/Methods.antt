@@ -1,17 +1,17 @@
 -- Parameters, receivers and methods.
 use Rattle.std.specs.Prelude.{ℕ, List, [], Option, Some, None}
-use Rattle.bridge_ast.specs.declared.attrs.Attrs.{Attrs}
-use Rattle.bridge_ast.specs.declared.docs.Docs.{Docs}
-use Rattle.bridge_ast.specs.declared.lifetimes.Lifetime.{Lifetime}
-use Rattle.bridge_ast.specs.declared.lifetimes.LifetimeNode.{LifetimeNode}
-use Rattle.bridge_ast.specs.declared.methods.Method.{Method}
-use Rattle.bridge_ast.specs.declared.methods.Param.{Param}
-use Rattle.bridge_ast.specs.declared.methods.SelfParam.{SelfParam}
-use Rattle.bridge_ast.specs.declared.paths.PathType.{PathType}
-use Rattle.bridge_ast.specs.declared.traits.TraitMethod.{TraitMethod}
-use Rattle.bridge_ast.specs.declared.traits.TraitSelfParam.{TraitSelfParam}
-use Rattle.bridge_ast.specs.declared.types.Mutability.{Mutability}
-use Rattle.bridge_ast.specs.declared.types.TypeName.{TypeName}
+use Rattle.bridge_decl.specs.declared.attrs.Attrs.{Attrs}
+use Rattle.bridge_decl.specs.declared.docs.Docs.{Docs}
+use Rattle.bridge_decl.specs.declared.lifetimes.Lifetime.{Lifetime}
+use Rattle.bridge_decl.specs.declared.lifetimes.LifetimeNode.{LifetimeNode}
+use Rattle.bridge_decl.specs.declared.methods.Method.{Method}
+use Rattle.bridge_decl.specs.declared.methods.Param.{Param}
+use Rattle.bridge_decl.specs.declared.methods.SelfParam.{SelfParam}
+use Rattle.bridge_decl.specs.declared.paths.PathType.{PathType}
+use Rattle.bridge_decl.specs.declared.traits.TraitMethod.{TraitMethod}
+use Rattle.bridge_decl.specs.declared.traits.TraitSelfParam.{TraitSelfParam}
+use Rattle.bridge_decl.specs.declared.types.Mutability.{Mutability}
+use Rattle.bridge_decl.specs.declared.types.TypeName.{TypeName}
 use Rattle.bridge_read.specs.declared.keys.Key.TheVariants as key
 use Rattle.bridge_read.specs.declared.methods.MethodHead.{MethodHead}
 use Rattle.bridge_read.specs.declared.methods.Signature.{Signature}

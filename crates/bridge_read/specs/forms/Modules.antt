@@ -2,10 +2,10 @@
 use Rattle.std.specs.Prelude.{ℕ, zero, suc, List, [], ◌∷◌, ◌++◌, Option, Some, None, option_and_then}
 use Rattle.serde_json.specs.Data.{Data}
 use Rattle.serde_json.specs.Find.{as_str}
-use Rattle.bridge_ast.specs.declared.attrs.Attrs.{Attrs}
-use Rattle.bridge_ast.specs.declared.modules.Alias.{Alias}
-use Rattle.bridge_ast.specs.declared.modules.Item.{Item}
-use Rattle.bridge_ast.specs.declared.modules.Module.{Module}
+use Rattle.bridge_decl.specs.declared.attrs.Attrs.{Attrs}
+use Rattle.bridge_decl.specs.declared.modules.Alias.{Alias}
+use Rattle.bridge_decl.specs.declared.modules.Item.{Item}
+use Rattle.bridge_decl.specs.declared.modules.Module.{Module}
 use Rattle.bridge_read.specs.declared.keys.Key.TheVariants as key
 use Rattle.bridge_read.specs.declared.modules.Contents.{Contents}
 use Rattle.bridge_read.specs.Reading.{under}

@@ -1,17 +1,17 @@
 -- Types: a word, or an object with one key.
 use Rattle.std.specs.Prelude.{ℕ, zero, suc, List, [], ◌∷◌, codes, Bool, true, false, Option, Some, None, option_map, option_and_then, Result, if◌then◌else◌}
 use Rattle.std.specs.Str.{bytes_eq}
-use Rattle.bridge_ast.specs.declared.lifetimes.Lifetime.{Lifetime}
-use Rattle.bridge_ast.specs.declared.types.Mutability.{Mutability}
-use Rattle.bridge_ast.specs.declared.types.PrimitiveType.{PrimitiveType}
-use Rattle.bridge_ast.specs.declared.types.PrimitiveType.TheVariants as primitive
-use Rattle.bridge_ast.specs.declared.types.StringEncoding.{StringEncoding}
-use Rattle.bridge_ast.specs.declared.types.StdlibOrDiplomat.{StdlibOrDiplomat}
-use Rattle.bridge_ast.specs.declared.types.StdlibOrDiplomat.TheVariants.{Stdlib, Diplomat}
-use Rattle.bridge_ast.specs.declared.types.WriteType.{WriteType}
-use Rattle.bridge_ast.specs.declared.types.WriteType.TheVariants as write
-use Rattle.bridge_ast.specs.declared.types.TypeName.{TypeName}
-use Rattle.bridge_ast.specs.declared.types.TypeName.TheVariants as type
+use Rattle.bridge_decl.specs.declared.lifetimes.Lifetime.{Lifetime}
+use Rattle.bridge_decl.specs.declared.types.Mutability.{Mutability}
+use Rattle.bridge_decl.specs.declared.types.PrimitiveType.{PrimitiveType}
+use Rattle.bridge_decl.specs.declared.types.PrimitiveType.TheVariants as primitive
+use Rattle.bridge_decl.specs.declared.types.StringEncoding.{StringEncoding}
+use Rattle.bridge_decl.specs.declared.types.StdlibOrDiplomat.{StdlibOrDiplomat}
+use Rattle.bridge_decl.specs.declared.types.StdlibOrDiplomat.TheVariants.{Stdlib, Diplomat}
+use Rattle.bridge_decl.specs.declared.types.WriteType.{WriteType}
+use Rattle.bridge_decl.specs.declared.types.WriteType.TheVariants as write
+use Rattle.bridge_decl.specs.declared.types.TypeName.{TypeName}
+use Rattle.bridge_decl.specs.declared.types.TypeName.TheVariants as type
 use Rattle.serde_json.specs.Data.{Data}
 use Rattle.bridge_read.specs.declared.fault.Fault.{Fault}
 use Rattle.bridge_read.specs.declared.keys.Key.{Key}

@@ -1,6 +1,6 @@
 //! A realistic bridge, as it stands in `examples/`.
 
-use bridge_read::input::read_input;
+use bridge_read::read_input;
 use std::test::*;
 
 /// Modules with opaques, structs, enums, a trait, callbacks, documentation and marks: examples/bridge.json.

@@ -1,8 +1,7 @@
 //! What is read of an input, part by part.
 
-use bridge_ast::modules::Item;
-use bridge_ast::text::Text;
-use bridge_read::input::{Input, read_input};
+use bridge_ast::{Item, Text};
+use bridge_read::{Input, read_input};
 use std::alloc::Global;
 use std::test::*;
 

@@ -1,8 +1,8 @@
 -- BadIdent: a name of an item, a method, a parameter or a lifetime isn't an identifier.
 use Rattle.std.specs.Prelude.{◌≡◌, ℕ, List, [], ◌∷◌}
-use Rattle.bridge_ast.specs.declared.modules.Module.{Module}
-use Rattle.bridge_ast.specs.Ident.{IsIdent}
-use Rattle.bridge_ast.specs.Names.{Place}
+use Rattle.bridge_decl.specs.declared.modules.Module.{Module}
+use Rattle.bridge_decl.specs.Ident.{IsIdent}
+use Rattle.bridge_decl.specs.Names.{Place}
 use Rattle.bridge_tool.specs.Checks.{name}
 use Rattle.bridge_tool.specs.Tested.{StandsAt}
 

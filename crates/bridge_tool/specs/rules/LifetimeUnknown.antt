@@ -1,9 +1,9 @@
 -- LifetimeUnknown: a lifetime is used where it isn't declared.
 use Rattle.std.specs.Prelude.{◌≡◌, ℕ, List, [], ◌∷◌, Contains}
-use Rattle.bridge_ast.specs.declared.lifetimes.LifetimeEnv.{LifetimeEnv}
-use Rattle.bridge_ast.specs.declared.modules.Module.{Module}
-use Rattle.bridge_ast.specs.Environments.{lifetime_names}
-use Rattle.bridge_ast.specs.Names.{Place}
+use Rattle.bridge_decl.specs.declared.lifetimes.LifetimeEnv.{LifetimeEnv}
+use Rattle.bridge_decl.specs.declared.modules.Module.{Module}
+use Rattle.bridge_decl.specs.Environments.{lifetime_names}
+use Rattle.bridge_decl.specs.Names.{Place}
 use Rattle.bridge_tool.specs.Checks.{lifetime}
 use Rattle.bridge_tool.specs.Tested.{StandsAt}
 

@@ -1,10 +1,10 @@
 -- UnresolvedPath: a path names no struct, opaque or enum.
 use Rattle.std.specs.Prelude.{◌≡◌, ℕ, List, [], ◌∷◌}
 use Rattle.bridge_ast.specs.declared.environment.walk.ItemPlace.{ItemPlace}
-use Rattle.bridge_ast.specs.declared.modules.Item.{Item}
-use Rattle.bridge_ast.specs.declared.modules.Module.{Module}
-use Rattle.bridge_ast.specs.declared.paths.PathType.{PathType}
-use Rattle.bridge_ast.specs.Names.{Place, path_text}
+use Rattle.bridge_decl.specs.declared.modules.Item.{Item}
+use Rattle.bridge_decl.specs.declared.modules.Module.{Module}
+use Rattle.bridge_decl.specs.declared.paths.PathType.{PathType}
+use Rattle.bridge_decl.specs.Names.{Place, path_text}
 use Rattle.bridge_ast.specs.Types.{NamesType}
 use Rattle.bridge_tool.specs.Checks.{path}
 use Rattle.bridge_tool.specs.Tested.{StandsAt}

@@ -1,14 +1,9 @@
 //! Modules that tests declare.
 
-use bridge_ast::attrs::{Attrs, RenameAttr};
-use bridge_ast::docs::Docs;
-use bridge_ast::lifetimes::{Lifetime, LifetimeEnv, LifetimeNode};
-use bridge_ast::methods::{Method, Param, SelfParam};
-use bridge_ast::modules::{Alias, Item, Module};
-use bridge_ast::paths::PathType;
-use bridge_ast::structs::OpaqueType;
-use bridge_ast::text::Text;
-use bridge_ast::types::{Mutability, TypeName};
+use bridge_ast::{
+    Alias, Attrs, Docs, Item, Lifetime, LifetimeEnv, LifetimeNode, Method, Module, Mutability,
+    OpaqueType, Param, PathType, RenameAttr, SelfParam, Text, TypeName,
+};
 use sqlite_items::{Boxed, Items};
 use std::alloc::Global;
 use std::test::Fail;

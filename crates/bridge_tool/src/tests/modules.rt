@@ -3,10 +3,8 @@
 use super::declared::{Declared, DeclaredMethod, modules};
 use crate::built::is_built;
 use crate::run::tell;
-use crate::sink::PlainSink;
-use bridge_ast::environment::Env;
-use bridge_ast::modules::Item;
-use bridge_ast::types::Mutability;
+use bridge_ast::{Env, Item, Mutability};
+use bridge_outside::PlainSink;
 use std::alloc::Global;
 use std::test::*;
 

@@ -1,7 +1,6 @@
 use super::inputs::{INPUTS, NOT_JSON, PICK, PICK_PAGE};
 use crate::run::run;
-use crate::sink::{MemSink, PlainSink};
-use crate::source::{MemSource, PlainSource};
+use bridge_outside::{MemSink, MemSource, PlainSink, PlainSource};
 use std::alloc::{AllocError, Global};
 use std::test::*;
 

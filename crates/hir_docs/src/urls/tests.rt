@@ -1,5 +1,5 @@
 use super::*;
-use bridge_ast::text::NoMemory;
+use bridge_decl::NoMemory;
 
 // The base URL of that crate is this one; "" stands for none.
 fn has_base(

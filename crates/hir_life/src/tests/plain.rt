@@ -8,7 +8,7 @@ ghost use Rattle.hir_life.specs.Environment.{longer_of};
 use crate::environment::LifetimeEnv;
 use crate::lifetime_index::Lifetime;
 use crate::walks::Direction;
-use bridge_ast::text::NoMemory;
+use bridge_decl::NoMemory;
 use std::alloc::Global;
 
 /// Whether the first lifetime outlives the second: adds bounds to the second one by one, for as long as one is missing.

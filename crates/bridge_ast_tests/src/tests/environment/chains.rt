@@ -1,9 +1,7 @@
 //! Long chains of aliases.
 
 use super::declared::{Declared, attrs, items, modules, path_of, type_place};
-use bridge_ast::environment::Env;
-use bridge_ast::modules::{Alias, Module};
-use bridge_ast::text::Text;
+use bridge_ast::{Alias, Env, Module, Text};
 use sqlite_items::Items;
 use std::alloc::Global;
 use std::test::Fail;

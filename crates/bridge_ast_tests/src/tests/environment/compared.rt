@@ -4,8 +4,7 @@ ghost use Rattle.std.specs.Prelude.{◌<◌, length};
 
 use super::chains::chain;
 use super::declared::{Declared, modules, path_of, type_place};
-use bridge_ast::environment::{Env, item_named};
-use bridge_ast::paths::PathType;
+use bridge_ast::{Env, PathType, item_named};
 use std::alloc::Global;
 use std::test::Fail;
 

@@ -1,16 +1,6 @@
 //! Modules and paths that tests declare.
 
-use bridge_ast::attrs::{Attrs, RenameAttr};
-use bridge_ast::docs::Docs;
-use bridge_ast::enums::Enum;
-use bridge_ast::environment::{CustomType, Env, EnvFault, EnvFaultKind, EnvPlace};
-use bridge_ast::lifetimes::LifetimeEnv;
-use bridge_ast::modules::{Alias, Item, Module};
-use bridge_ast::paths::PathType;
-use bridge_ast::structs::OpaqueType;
-use bridge_ast::text::Text;
-use bridge_ast::traits::Trait;
-use bridge_ast::types::Mutability;
+use bridge_ast::{Alias, Attrs, CustomType, Docs, Enum, Env, EnvFault, EnvFaultKind, EnvPlace, Item, LifetimeEnv, Module, Mutability, OpaqueType, PathType, RenameAttr, Text, Trait};
 use sqlite_items::Items;
 use std::alloc::Global;
 use std::test::Fail;

@@ -1,11 +1,7 @@
 //! The first faults of lifetimes.
 
 use super::declared::{Expected, attrs, docs, fault_of};
-use bridge_ast::environment::{Env, EnvFaultKind, EnvPart, EnvPlace};
-use bridge_ast::lifetimes::{LifetimeEnv, LifetimeNode};
-use bridge_ast::modules::{Item, Module};
-use bridge_ast::structs::Struct;
-use bridge_ast::text::Text;
+use bridge_ast::{Env, EnvFaultKind, EnvPart, EnvPlace, Item, LifetimeEnv, LifetimeNode, Module, Struct, Text};
 use sqlite_items::Items;
 use std::alloc::Global;
 use std::test::Fail;

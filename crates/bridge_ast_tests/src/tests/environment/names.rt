@@ -1,7 +1,7 @@
 //! The first faults of names and paths.
 
 use super::declared::{Declared, Expected, fault_of, modules};
-use bridge_ast::environment::{Env, EnvFaultKind, EnvPart, EnvPlace};
+use bridge_ast::{Env, EnvFaultKind, EnvPart, EnvPlace};
 use std::test::Fail;
 
 /// Modules, and their first fault.

@@ -1,7 +1,7 @@
 //! What paths name.
 
 use super::declared::{Declared, modules, path_of, type_place};
-use bridge_ast::environment::{Env, ItemPlace};
+use bridge_ast::{Env, ItemPlace};
 use std::test::Fail;
 
 const DECLARED: [Declared; 3] = [

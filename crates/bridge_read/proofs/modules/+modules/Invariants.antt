@@ -1,6 +1,6 @@
 use Rattle.std.proofs.Common.{◌≡◌, ◌+◌, ◌*◌, take, List, Ok}
 use Rattle.lent_json.specs.Lists.{items_at}
-use Rattle.bridge_ast.specs.declared.modules.Module.{Module}
+use Rattle.bridge_decl.specs.declared.modules.Module.{Module}
 use Rattle.bridge_read.specs.Reading.{each_of}
 use Rattle.bridge_read.specs.forms.Modules.{joined, module_within}
 use Rattle.bridge_read.proofs.modules.+modules.Given as goal

@@ -1,5 +1,5 @@
 use Rattle.std.proofs.Common.{ℕ, length, map, take}
-use Rattle.bridge_ast.specs.declared.lifetimes.LifetimeEnv.{LifetimeEnv}
+use Rattle.bridge_decl.specs.declared.lifetimes.LifetimeEnv.{LifetimeEnv}
 use Rattle.hir_life.specs.Flags.{FlagsOutliving}
 use Rattle.bridge_tool.specs.Leaves.{leaf_of, AreInRange, Lists}
 use Rattle.bridge_tool.specs.Signature.{environment}

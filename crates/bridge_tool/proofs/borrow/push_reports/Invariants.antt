@@ -1,5 +1,5 @@
 use Rattle.std.proofs.Common.{ℕ, List, ◌++◌, map, take}
-use Rattle.bridge_ast.specs.Names.{item_name}
+use Rattle.bridge_decl.specs.Names.{item_name}
 use Rattle.bridge_tool.specs.Borrows.{Callable, IsCallableReport}
 use Rattle.bridge_tool.specs.Chosen.{EachPair}
 use Rattle.bridge_tool.proofs.borrow.push_reports.Given as goal

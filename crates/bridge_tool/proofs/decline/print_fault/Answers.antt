@@ -1,4 +1,4 @@
-use Rattle.bridge_tool.proofs.PrintingLaws.{◌⨟◌, prints_same, delivers}
+use Rattle.bridge_outside.proofs.PrintingLaws.{◌⨟◌, prints_same, delivers}
 use Rattle.bridge_tool.proofs.decline.print_fault.Goals as goal
 
 pub returns : goal.returns

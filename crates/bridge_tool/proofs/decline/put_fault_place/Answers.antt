@@ -1,4 +1,4 @@
-use Rattle.bridge_tool.proofs.PrintingLaws.{prints_nothing}
+use Rattle.bridge_outside.proofs.PrintingLaws.{prints_nothing}
 use Rattle.bridge_tool.proofs.decline.put_fault_place.Goals as goal
 
 pub returns-in-NotJson : goal.returns-in-NotJson

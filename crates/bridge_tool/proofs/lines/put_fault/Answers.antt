@@ -2,7 +2,7 @@ use Rattle.std.proofs.Common.{ap, ◌∙◌}
 use Rattle.std.specs.List.{join_by}
 use Rattle.std.specs.Prelude.{codes}
 use Rattle.bridge_tool.proofs.LinesLemmas.{joined_same}
-use Rattle.bridge_tool.proofs.PrintingLaws.{◌⨟◌, prints_same}
+use Rattle.bridge_outside.proofs.PrintingLaws.{◌⨟◌, prints_same}
 use Rattle.bridge_tool.proofs.lines.put_fault.Goals as goal
 
 pub returns-in-BadIdent : goal.returns-in-BadIdent

@@ -1,7 +1,7 @@
 use Rattle.std.proofs.Common.{sym, ap, ◌∙◌, length}
 use Rattle.std.specs.Prelude.{◌==◌}
 use Rattle.bridge_tool.proofs.LinesLemmas.{item_left_out}
-use Rattle.bridge_tool.proofs.PrintingLaws.{prints_nothing, prints_same}
+use Rattle.bridge_outside.proofs.PrintingLaws.{prints_nothing, prints_same}
 use Rattle.bridge_tool.proofs.lines.put_item.Goals as goal
 
 pub returns-else-not-is_empty : goal.returns-else-not-is_empty

@@ -1,4 +1,4 @@
-use Rattle.bridge_tool.proofs.PrintingLaws.{prints_nothing}
+use Rattle.bridge_outside.proofs.PrintingLaws.{prints_nothing}
 use Rattle.bridge_tool.proofs.lines.put_method.Goals as goal
 
 pub returns-in_default : goal.returns-in_default

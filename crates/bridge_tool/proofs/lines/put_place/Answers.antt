@@ -1,7 +1,7 @@
 use Rattle.std.specs.Prelude.{option_map}
 use Rattle.bridge_tool.proofs.LinesLemmas.{place_parts}
 use Rattle.bridge_tool.specs.Lines.{method_segments}
-use Rattle.bridge_tool.proofs.PrintingLaws.{◌⨟◌, prints_same}
+use Rattle.bridge_outside.proofs.PrintingLaws.{◌⨟◌, prints_same}
 use Rattle.bridge_tool.proofs.lines.put_place.Goals as goal
 
 pub returns : goal.returns

@@ -1,4 +1,4 @@
-use Rattle.bridge_tool.proofs.PrintingLaws.{◌⨟◌, prints_same}
+use Rattle.bridge_outside.proofs.PrintingLaws.{◌⨟◌, prints_same}
 use Rattle.bridge_tool.proofs.lines.put_report.Goals as goal
 
 pub returns : goal.returns

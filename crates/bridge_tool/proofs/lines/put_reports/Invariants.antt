@@ -1,7 +1,7 @@
 use Rattle.std.proofs.Common.{take}
 use Rattle.std.specs.List.{flat_map}
 use Rattle.bridge_tool.specs.Lines.{report_text, reported}
-use Rattle.bridge_tool.specs.Printing.{Prints}
+use Rattle.bridge_outside.specs.Printing.{Prints}
 use Rattle.bridge_tool.specs.Reports.{tested_of}
 use Rattle.bridge_tool.proofs.lines.put_reports.Given as goal
 

@@ -1,6 +1,6 @@
 use Rattle.std.specs.Prelude.{codes}
-use Rattle.bridge_tool.proofs.PrintingLaws.{prints_nothing}
-use Rattle.bridge_tool.proofs.JoinedLists.{prints_more, prints_all}
+use Rattle.bridge_outside.proofs.PrintingLaws.{prints_nothing}
+use Rattle.bridge_outside.proofs.JoinedLists.{prints_more, prints_all}
 use Rattle.bridge_tool.proofs.lines.put_segments.Goals as goal
 
 pub loop-place-init : goal.loop-place-init

@@ -1,7 +1,7 @@
 use Rattle.std.proofs.Common.{take}
 use Rattle.std.specs.List.{join_by}
 use Rattle.std.specs.Prelude.{codes}
-use Rattle.bridge_tool.specs.Printing.{Prints}
+use Rattle.bridge_outside.specs.Printing.{Prints}
 use Rattle.bridge_tool.proofs.lines.put_segments.Given as goal
 
 abbrev pub invariant-loop-place : goal.invariant-loop-place

@@ -3,7 +3,7 @@ use Rattle.std.specs.Prelude.{decimal}
 use Rattle.std.specs.List.{flat_map}
 use Rattle.bridge_tool.specs.Borrows.{callables_at}
 use Rattle.bridge_tool.specs.Page.{callables_text}
-use Rattle.bridge_tool.proofs.PrintingLaws.{◌⨟◌, prints_same, delivers}
+use Rattle.bridge_outside.proofs.PrintingLaws.{◌⨟◌, prints_same, delivers}
 use Rattle.bridge_tool.proofs.page.print_page.Goals as goal
 
 pub returns : goal.returns

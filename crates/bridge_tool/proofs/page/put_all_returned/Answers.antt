@@ -1,6 +1,6 @@
 use Rattle.bridge_tool.specs.Page.{returned_text}
 use Rattle.bridge_tool.proofs.ChosenLemmas.{flat_map_one_more}
-use Rattle.bridge_tool.proofs.PrintingLaws.{◌⨟◌, prints_same}
+use Rattle.bridge_outside.proofs.PrintingLaws.{◌⨟◌, prints_same}
 use Rattle.bridge_tool.proofs.page.put_all_returned.Goals as goal
 
 pub loop-lifetime-preserved : goal.loop-lifetime-preserved

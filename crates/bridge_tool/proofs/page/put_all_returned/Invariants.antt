@@ -1,7 +1,7 @@
 use Rattle.std.proofs.Common.{take}
 use Rattle.std.specs.List.{flat_map}
 use Rattle.bridge_tool.specs.Page.{returned_text}
-use Rattle.bridge_tool.specs.Printing.{Prints}
+use Rattle.bridge_outside.specs.Printing.{Prints}
 use Rattle.bridge_tool.proofs.page.put_all_returned.Given as goal
 
 abbrev pub invariant-loop-lifetime : goal.invariant-loop-lifetime

@@ -1,7 +1,7 @@
 use Rattle.std.proofs.Common.{ap, sym}
 use Rattle.std.specs.Option.{option_copied}
 use Rattle.bridge_tool.specs.Page.{text_with}
-use Rattle.bridge_tool.proofs.PrintingLaws.{prints_nothing, prints_same}
+use Rattle.bridge_outside.proofs.PrintingLaws.{prints_nothing, prints_same}
 use Rattle.bridge_tool.proofs.page.put_callable_with.Goals as goal
 
 pub returns-in-None : goal.returns-in-None

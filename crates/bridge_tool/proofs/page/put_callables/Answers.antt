@@ -1,10 +1,10 @@
 use Rattle.std.proofs.Common.{List, ℕ, ap, ◌∙◌}
 use Rattle.std.specs.Option.{option_copied}
-use Rattle.bridge_ast.specs.Names.{item_name}
+use Rattle.bridge_decl.specs.Names.{item_name}
 use Rattle.bridge_tool.specs.Borrows.{callables_of}
 use Rattle.bridge_tool.specs.Page.{text_with}
 use Rattle.bridge_tool.proofs.PageLemmas.{callables_next, callable_at, callables_all}
-use Rattle.bridge_tool.proofs.PrintingLaws.{◌⨟◌, prints_nothing, prints_same}
+use Rattle.bridge_outside.proofs.PrintingLaws.{◌⨟◌, prints_nothing, prints_same}
 use Rattle.bridge_tool.proofs.page.put_callables.Goals as goal
 
 pub loop-place-init : goal.loop-place-init

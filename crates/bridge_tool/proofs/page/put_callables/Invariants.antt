@@ -1,7 +1,7 @@
 use Rattle.std.proofs.Common.{take}
 use Rattle.bridge_tool.specs.Borrows.{callables_of}
 use Rattle.bridge_tool.specs.Page.{callables_text}
-use Rattle.bridge_tool.specs.Printing.{Prints}
+use Rattle.bridge_outside.specs.Printing.{Prints}
 use Rattle.bridge_tool.proofs.page.put_callables.Given as goal
 
 abbrev pub invariant-loop-place : goal.invariant-loop-place

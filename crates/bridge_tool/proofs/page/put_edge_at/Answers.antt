@@ -1,4 +1,4 @@
-use Rattle.bridge_tool.proofs.PrintingLaws.{◌⨟◌}
+use Rattle.bridge_outside.proofs.PrintingLaws.{◌⨟◌}
 use Rattle.bridge_tool.proofs.page.put_edge_at.Goals as goal
 
 pub returns : goal.returns

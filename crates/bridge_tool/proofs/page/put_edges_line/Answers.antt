@@ -1,6 +1,6 @@
 use Rattle.bridge_tool.specs.Page.{edge_text}
 use Rattle.bridge_tool.proofs.PageLemmas.{listed_same}
-use Rattle.bridge_tool.proofs.PrintingLaws.{◌⨟◌, prints_same}
+use Rattle.bridge_outside.proofs.PrintingLaws.{◌⨟◌, prints_same}
 use Rattle.bridge_tool.proofs.page.put_edges_line.Goals as goal
 
 pub returns : goal.returns

@@ -1,8 +1,8 @@
 use Rattle.std.proofs.Common.{ap, sym, ◌∙◌}
-use Rattle.bridge_ast.specs.declared.methods.Param.{Param}
+use Rattle.bridge_decl.specs.declared.methods.Param.{Param}
 use Rattle.bridge_tool.specs.Page.{input_text}
 use Rattle.bridge_tool.proofs.PageLemmas.{text_at_none}
-use Rattle.bridge_tool.proofs.PrintingLaws.{prints_nothing, prints_same}
+use Rattle.bridge_outside.proofs.PrintingLaws.{prints_nothing, prints_same}
 use Rattle.bridge_tool.proofs.page.put_input.Goals as goal
 
 pub returns-in_default : goal.returns-in_default

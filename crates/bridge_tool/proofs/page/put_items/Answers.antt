@@ -1,6 +1,6 @@
 use Rattle.bridge_tool.specs.Borrows.{callables_of}
 use Rattle.bridge_tool.proofs.PageLemmas.{own_reports, others_left, text_next, left_next}
-use Rattle.bridge_tool.proofs.PrintingLaws.{◌⨟◌, prints_same}
+use Rattle.bridge_outside.proofs.PrintingLaws.{◌⨟◌, prints_same}
 use Rattle.bridge_tool.proofs.page.put_items.Goals as goal
 
 pub loop-item-preserved : goal.loop-item-preserved

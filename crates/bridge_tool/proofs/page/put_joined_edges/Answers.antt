@@ -1,7 +1,7 @@
 use Rattle.std.specs.Prelude.{codes}
 use Rattle.bridge_tool.specs.Page.{edge_text}
-use Rattle.bridge_tool.proofs.PrintingLaws.{prints_nothing}
-use Rattle.bridge_tool.proofs.JoinedLists.{prints_more, prints_all}
+use Rattle.bridge_outside.proofs.PrintingLaws.{prints_nothing}
+use Rattle.bridge_outside.proofs.JoinedLists.{prints_more, prints_all}
 use Rattle.bridge_tool.proofs.page.put_joined_edges.Goals as goal
 
 pub loop-place-init : goal.loop-place-init

@@ -2,7 +2,7 @@ use Rattle.std.proofs.Common.{take}
 use Rattle.std.specs.List.{join_by}
 use Rattle.std.specs.Prelude.{codes}
 use Rattle.bridge_tool.specs.Page.{edge_text}
-use Rattle.bridge_tool.specs.Printing.{Prints}
+use Rattle.bridge_outside.specs.Printing.{Prints}
 use Rattle.bridge_tool.proofs.page.put_joined_edges.Given as goal
 
 abbrev pub invariant-loop-place : goal.invariant-loop-place

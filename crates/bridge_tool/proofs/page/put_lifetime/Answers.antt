@@ -1,7 +1,7 @@
 use Rattle.std.proofs.Common.{sym}
-use Rattle.bridge_ast.specs.declared.lifetimes.LifetimeNode.{LifetimeNode}
+use Rattle.bridge_decl.specs.declared.lifetimes.LifetimeNode.{LifetimeNode}
 use Rattle.bridge_tool.proofs.PageLemmas.{text_at_none}
-use Rattle.bridge_tool.proofs.PrintingLaws.{prints_nothing, prints_same}
+use Rattle.bridge_outside.proofs.PrintingLaws.{prints_nothing, prints_same}
 use Rattle.bridge_tool.proofs.page.put_lifetime.Goals as goal
 
 pub returns-in_default : goal.returns-in_default

@@ -2,7 +2,7 @@ use Rattle.std.proofs.Common.{List, ap, drop, length, ◌∙◌}
 use Rattle.bridge_tool.specs.Borrows.{Callable}
 use Rattle.bridge_tool.specs.Page.{callables_text}
 use Rattle.bridge_tool.proofs.PageLemmas.{module_callables}
-use Rattle.bridge_tool.proofs.PrintingLaws.{prints_same}
+use Rattle.bridge_outside.proofs.PrintingLaws.{prints_same}
 use Rattle.bridge_tool.proofs.page.put_module.Goals as goal
 
 pub returns : goal.returns

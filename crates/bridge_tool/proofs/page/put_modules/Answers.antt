@@ -2,7 +2,7 @@ use Rattle.std.proofs.Common.{refl, get_or}
 use Rattle.std.proofs.lemmas.List.{get_or_default}
 use Rattle.bridge_tool.specs.Borrows.{callables_at}
 use Rattle.bridge_tool.proofs.PageLemmas.{text_next, left_next}
-use Rattle.bridge_tool.proofs.PrintingLaws.{◌⨟◌, prints_same}
+use Rattle.bridge_outside.proofs.PrintingLaws.{◌⨟◌, prints_same}
 use Rattle.bridge_tool.proofs.page.put_modules.Goals as goal
 
 pub loop-number-preserved : goal.loop-number-preserved

@@ -2,7 +2,7 @@ use Rattle.std.proofs.Common.{◌≡◌, length, take, drop}
 use Rattle.std.specs.List.{flat_map}
 use Rattle.bridge_tool.specs.Borrows.{callables_at}
 use Rattle.bridge_tool.specs.Page.{callables_text}
-use Rattle.bridge_tool.specs.Printing.{Prints}
+use Rattle.bridge_outside.specs.Printing.{Prints}
 use Rattle.bridge_tool.proofs.page.put_modules.Given as goal
 
 abbrev pub invariant-loop-number : goal.invariant-loop-number

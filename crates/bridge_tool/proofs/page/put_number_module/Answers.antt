@@ -1,5 +1,5 @@
 use Rattle.std.proofs.Common.{sym}
-use Rattle.bridge_tool.proofs.PrintingLaws.{prints_nothing}
+use Rattle.bridge_outside.proofs.PrintingLaws.{prints_nothing}
 use Rattle.bridge_tool.proofs.page.put_number_module.Goals as goal
 
 pub returns-in-None-clause-printed : goal.returns-in-None-clause-printed

@@ -2,7 +2,7 @@ use Rattle.std.proofs.Common.{ap}
 use Rattle.std.specs.Prelude.{decimal}
 use Rattle.bridge_tool.specs.Page.{lifetime_text, path_text}
 use Rattle.bridge_tool.proofs.PageLemmas.{listed_same}
-use Rattle.bridge_tool.proofs.PrintingLaws.{◌⨟◌, prints_same}
+use Rattle.bridge_outside.proofs.PrintingLaws.{◌⨟◌, prints_same}
 use Rattle.bridge_tool.proofs.page.put_paths_line.Goals as goal
 
 pub returns : goal.returns

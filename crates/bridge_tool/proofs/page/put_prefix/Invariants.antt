@@ -1,6 +1,6 @@
 use Rattle.std.proofs.Common.{take}
 use Rattle.bridge_tool.specs.Page.{prefix_text}
-use Rattle.bridge_tool.specs.Printing.{Prints}
+use Rattle.bridge_outside.specs.Printing.{Prints}
 use Rattle.bridge_tool.proofs.page.put_prefix.Given as goal
 
 abbrev pub invariant-loop-segment : goal.invariant-loop-segment

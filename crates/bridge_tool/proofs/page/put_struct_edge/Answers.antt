@@ -1,4 +1,4 @@
-use Rattle.bridge_tool.proofs.PrintingLaws.{◌⨟◌}
+use Rattle.bridge_outside.proofs.PrintingLaws.{◌⨟◌}
 use Rattle.bridge_tool.proofs.page.put_struct_edge.Goals as goal
 
 pub returns : goal.returns

@@ -1,5 +1,5 @@
 use Rattle.std.proofs.Common.{map, refl, subst}
-use Rattle.bridge_ast.specs.Ident.{IsIdent}
+use Rattle.bridge_decl.specs.Ident.{IsIdent}
 use Rattle.bridge_tool.specs.Checks.{name}
 use Rattle.bridge_tool.specs.Reports.{tested_at, tested_of, TestFails}
 use Rattle.bridge_tool.proofs.ChosenLemmas.{appends_passed}

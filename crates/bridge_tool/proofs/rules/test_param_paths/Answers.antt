@@ -1,5 +1,5 @@
 use Rattle.std.proofs.Common.{map}
-use Rattle.bridge_ast.specs.declared.types.TypeName.{out-TypeName}
+use Rattle.bridge_decl.specs.declared.types.TypeName.{out-TypeName}
 use Rattle.bridge_tool.specs.Checks.{path, type_paths}
 use Rattle.bridge_tool.specs.Reports.{tested_at, TestFails}
 use Rattle.bridge_tool.proofs.ChosenLemmas.{appends_more, appends_all}

@@ -1,7 +1,7 @@
 use Rattle.std.proofs.Common.{◌≡◌, sym, ap, ◌∙◌}
 use Rattle.std.specs.List.{flat_map}
 use Rattle.std.proofs.lemmas.List.{append-nil}
-use Rattle.bridge_ast.specs.declared.types.TypeName.{out-TypeName}
+use Rattle.bridge_decl.specs.declared.types.TypeName.{out-TypeName}
 use Rattle.bridge_tool.specs.Checks.{lifetime_name, type_lifetimes}
 use Rattle.bridge_tool.proofs.rules.test_type_lifetime.Goals as goal
 

@@ -1,8 +1,8 @@
 use Rattle.std.proofs.Common.{◌∙◌, ◌++◌, ◌∷◌, [], ap, map, subst, sym, take}
 use Rattle.std.proofs.lemmas.List.{map_more}
 use Rattle.std.proofs.lemmas.List.Elements.{All-more}
-use Rattle.bridge_ast.specs.Ident.{IsIdent}
-use Rattle.bridge_ast.specs.declared.lifetimes.LifetimeNode.{LifetimeNode}
+use Rattle.bridge_decl.specs.Ident.{IsIdent}
+use Rattle.bridge_decl.specs.declared.lifetimes.LifetimeNode.{LifetimeNode}
 use Rattle.hir_elide.specs.Signature.{bounded}
 use Rattle.hir_elide.proofs.environment.bounded_lifetimes.Goals as goal
 

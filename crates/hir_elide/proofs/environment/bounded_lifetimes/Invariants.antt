@@ -1,6 +1,6 @@
 use Rattle.std.proofs.Common.{◌≡◌, map, take}
 use Rattle.std.specs.Prelude.{All}
-use Rattle.bridge_ast.specs.Ident.{IsIdent}
+use Rattle.bridge_decl.specs.Ident.{IsIdent}
 use Rattle.hir_elide.specs.Signature.{bounded}
 use Rattle.hir_elide.proofs.environment.bounded_lifetimes.Given as goal
 

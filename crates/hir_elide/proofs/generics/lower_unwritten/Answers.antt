@@ -1,6 +1,6 @@
 use Rattle.std.proofs.Common.{◌∙◌, ◌+◌, ◌++◌, ◌∷◌, [], ap, append_assoc, replicate}
 use Rattle.std.proofs.lemmas.Result.{err_from_is_err_and}
-use Rattle.bridge_ast.specs.declared.lifetimes.Lifetime.TheVariants as written
+use Rattle.bridge_decl.specs.declared.lifetimes.Lifetime.TheVariants as written
 use Rattle.hir_elide.proofs.GenericLemmas.{goes_on, one_more, split_at, stops}
 use Rattle.hir_elide.proofs.generics.lower_unwritten.Goals as goal
 

@@ -1,6 +1,6 @@
 use Rattle.std.proofs.Common.{◌≡◌, List, [], sym, ap, ◌∙◌, subst}
 use Rattle.std.proofs.lemmas.Result.{err_from_is_err_and}
-use Rattle.bridge_ast.specs.declared.modules.Module.{Module}
+use Rattle.bridge_decl.specs.declared.modules.Module.{Module}
 use Rattle.bridge_ast.specs.EnvFaults.{IsFirst, faults_of}
 use Rattle.bridge_ast.specs.Sound.{AreSound}
 use Rattle.bridge_ast.specs.declared.environment.scopes.Scope.{Scope}

@@ -1,5 +1,5 @@
 use Rattle.std.proofs.Common.{◌≡◌, take, List, [], ◌++◌}
-use Rattle.bridge_ast.specs.declared.modules.Item.{Item}
+use Rattle.bridge_decl.specs.declared.modules.Item.{Item}
 use Rattle.bridge_ast.specs.Each.{each}
 use Rattle.bridge_ast.specs.EnvFaults.{items_named, aliases_named, alias_faults}
 use Rattle.bridge_ast.specs.Index.{Indexes}

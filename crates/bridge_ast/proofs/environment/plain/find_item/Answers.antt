@@ -1,7 +1,7 @@
 use Rattle.std.proofs.Common.{sym, ap, ◌∙◌}
 use Rattle.std.specs.Str.{bytes_eq}
 use Rattle.bridge_ast.specs.declared.environment.fault.EnvPart.TheVariants as part
-use Rattle.bridge_ast.specs.Names.{item_name}
+use Rattle.bridge_decl.specs.Names.{item_name}
 use Rattle.bridge_ast.proofs.PlainLemmas.{numbered_passed, numbered_found}
 use Rattle.bridge_ast.proofs.environment.plain.find_item.Goals as goal
 

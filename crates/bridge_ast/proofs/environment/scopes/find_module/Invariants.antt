@@ -1,6 +1,6 @@
 use Rattle.std.proofs.Common.{◌≡◌, List, take, Some}
 use Rattle.std.specs.Prelude.{slice_get}
-use Rattle.bridge_ast.specs.declared.modules.Module.{Module}
+use Rattle.bridge_decl.specs.declared.modules.Module.{Module}
 use Rattle.bridge_ast.specs.Scopes.{Knows}
 use Rattle.bridge_ast.proofs.environment.scopes.find_module.Given as goal
 

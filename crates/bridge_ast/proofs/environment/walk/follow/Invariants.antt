@@ -1,5 +1,5 @@
 use Rattle.std.proofs.Common.{List}
-use Rattle.bridge_ast.specs.declared.modules.Module.{Module}
+use Rattle.bridge_decl.specs.declared.modules.Module.{Module}
 use Rattle.bridge_ast.specs.AliasEnds.{KnowsEnds}
 use Rattle.bridge_ast.specs.Scopes.{Knows}
 use Rattle.bridge_ast.specs.Walks.{IsModule}

@@ -1,5 +1,5 @@
 use Rattle.std.proofs.Common.{ℕ, ◌∙◌, ap, arith}
-use Rattle.bridge_ast.specs.declared.lifetimes.Lifetime.TheVariants as written
+use Rattle.bridge_decl.specs.declared.lifetimes.Lifetime.TheVariants as written
 use Rattle.hir_life.specs.Environment.{Environment}
 use Rattle.hir_elide.proofs.NumberingLemmas.{numbers_used}
 use Rattle.hir_elide.proofs.numbering.Numbering.anonymous.Goals as goal

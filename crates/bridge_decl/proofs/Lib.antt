@@ -1,0 +1,3 @@
+pub mod IdentLemmas
+pub mod RenameLemmas
+pub mod TableLemmas

@@ -1,0 +1,4 @@
+pub mod Environments
+pub mod Ident
+pub mod Names
+pub mod Rename

@@ -1,5 +1,0 @@
-use Rattle.bridge_tool.proofs.PrintingLaws.{prints_held}
-use Rattle.bridge_tool.proofs.printer.put.Goals as goal
-
-pub returns-then-is_none : goal.returns-then-is_none
-returns-then-is_none g c = prints_held (cc c.if-is_none.ensures) c.hold.ensures.held c.hold.ensures.fault

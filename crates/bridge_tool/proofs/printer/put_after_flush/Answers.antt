@@ -1,5 +1,0 @@
-use Rattle.bridge_tool.proofs.PrintingLaws.{◌⨟◌}
-use Rattle.bridge_tool.proofs.printer.put_after_flush.Goals as goal
-
-pub returns : goal.returns
-returns g c = c.flush.ensures.prints ⨟ c.put_first.ensures

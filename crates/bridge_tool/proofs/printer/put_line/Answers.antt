@@ -1,5 +1,0 @@
-use Rattle.bridge_tool.proofs.PrintingLaws.{◌⨟◌}
-use Rattle.bridge_tool.proofs.printer.put_line.Goals as goal
-
-pub returns : goal.returns
-returns g c = c.put_text.ensures ⨟ c.put.ensures

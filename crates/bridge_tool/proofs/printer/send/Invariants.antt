@@ -1,9 +1,0 @@
-use Rattle.std.proofs.Common.{length, ◌-◌}
-use Rattle.bridge_tool.proofs.PrintingLaws.{SentSoFar}
-use Rattle.bridge_tool.proofs.printer.send.Given as goal
-
-abbrev pub invariant-loop-done : goal.invariant-loop-done
-invariant-loop-done g l = SentSoFar g.K.Sink.taken g.K.Sink.faults l.fn.sink l.sink l.piece l.done
-
-abbrev pub decreases-loop-done : goal.decreases-loop-done
-decreases-loop-done g l = length l.piece - l.done

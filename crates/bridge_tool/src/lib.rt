@@ -1,0 +1,28 @@
+//! Checks the declarations of a foreign interface and prints what borrows what: `run` over any source and any sink.
+#![tactic(auto)]
+
+mod borrow;
+mod built;
+mod declarations;
+mod decline;
+mod environment;
+mod faults;
+mod index;
+mod judge;
+mod lines;
+mod page;
+mod report;
+mod rules;
+mod run;
+mod status;
+#[cfg(test)]
+mod tests;
+mod verdict;
+mod walk;
+
+pub use bridge_outside::{
+    Failed, MemSink, MemSource, PlainSink, PlainSource, Sink, SinkFault, Source, StdSink, StdSource,
+};
+pub use bridge_read::{Input, InputFault, InputKind, read_input};
+pub use run::run;
+pub use status::Status;
