@@ -11,9 +11,9 @@ mod index;
 mod judge;
 mod lines;
 mod page;
+mod program;
 mod report;
 mod rules;
-mod run;
 mod status;
 #[cfg(test)]
 mod tests;
@@ -24,5 +24,5 @@ pub use bridge_outside::{
     Failed, MemSink, MemSource, PlainSink, PlainSource, Sink, SinkFault, Source, StdSink, StdSource,
 };
 pub use bridge_read::{Input, InputFault, InputKind, read_input};
-pub use run::run;
+pub use program::run;
 pub use status::Status;

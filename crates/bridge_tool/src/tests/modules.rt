@@ -2,7 +2,7 @@
 
 use super::declared::{Declared, DeclaredMethod, modules};
 use crate::built::is_built;
-use crate::run::tell;
+use crate::program::tell;
 use bridge_ast::{Env, Item, Mutability};
 use bridge_outside::PlainSink;
 use std::alloc::Global;

@@ -1,5 +1,5 @@
 use super::inputs::{INPUTS, NOT_JSON, PICK, PICK_PAGE};
-use crate::run::run;
+use crate::program::run;
 use bridge_outside::{MemSink, MemSource, PlainSink, PlainSource};
 use std::alloc::{AllocError, Global};
 use std::test::*;

@@ -1,5 +1,5 @@
 use Rattle.bridge_tool.proofs.RunLemmas.{one_word_is_command}
-use Rattle.bridge_tool.proofs.run.are_command.Goals as goal
+use Rattle.bridge_tool.proofs.program.are_command.Goals as goal
 
 pub returns-in-len1 : goal.returns-in-len1
 returns-in-len1 c =

@@ -4,7 +4,7 @@ use Rattle.bridge_tool.specs.Borrows.{AreReports, IsCallableReport, callables}
 use Rattle.bridge_tool.proofs.JudgeLemmas.{names_pass}
 use Rattle.bridge_tool.proofs.PageLemmas.{pairs_length}
 use Rattle.bridge_tool.proofs.RunLemmas.{told_page}
-use Rattle.bridge_tool.proofs.run.accept.Goals as goal
+use Rattle.bridge_tool.proofs.program.accept.Goals as goal
 
 pub reports_of-requires-clause-names : goal.reports_of-requires-clause-names
 reports_of-requires-clause-names g c = names_pass c.args.modules.now c.requires.keep

@@ -4,7 +4,7 @@ use Rattle.bridge_tool.specs.Headline.{Headline, IsComplete}
 use Rattle.bridge_tool.specs.Running.{world}
 use Rattle.bridge_tool.proofs.HeadlineLemmas.{complete_of, headline_of, too_long_of}
 use Rattle.bridge_tool.proofs.RunLemmas.{Says, bad_words_end, says}
-use Rattle.bridge_tool.proofs.run.run.Goals as goal
+use Rattle.bridge_tool.proofs.program.run.Goals as goal
 
 pub returns : goal.returns
 returns g c =

@@ -1,7 +1,7 @@
 use Rattle.bridge_tool.specs.Reports.{tested_of}
 use Rattle.bridge_tool.proofs.RefusalLemmas.{refused_by_faults}
 use Rattle.bridge_tool.proofs.RunLemmas.{told_reports}
-use Rattle.bridge_tool.proofs.run.refuse.Goals as goal
+use Rattle.bridge_tool.proofs.program.refuse.Goals as goal
 
 pub returns : goal.returns
 returns g c = λ modules chosen.

@@ -1,7 +1,7 @@
 use Rattle.std.proofs.Common.{refl, inl, inr}
 use Rattle.bridge_tool.specs.Declining.{fault_line, not_built_line}
 use Rattle.bridge_tool.proofs.RunLemmas.{answered_line, answered_told}
-use Rattle.bridge_tool.proofs.run.answer.Goals as goal
+use Rattle.bridge_tool.proofs.program.answer.Goals as goal
 
 pub returns-in-Declarations : goal.returns-in-Declarations
 returns-in-Declarations g c = λ bytes judged. answered_told bytes c.in-Declarations.env _ _ _ _ c.tell.result (rw c.in-Declarations.is at judged) c.tell.ensures

@@ -1,7 +1,7 @@
 use Rattle.std.proofs.Common.{List, ℕ, refl, subst, arith}
 use Rattle.bridge_tool.specs.Running.{Answered, world}
 use Rattle.bridge_tool.proofs.RunLemmas.{ran_answered}
-use Rattle.bridge_tool.proofs.run.run_to_status.Goals as goal
+use Rattle.bridge_tool.proofs.program.run_to_status.Goals as goal
 
 pub returns-in-Ok-clause-ran : goal.returns-in-Ok-clause-ran
 returns-in-Ok-clause-ran g c = let d = c.deref.ensures in let a = c.check.ensures in let i = c.in-Ok.ensures in let w = c.if-not-are_command.ensures in
