@@ -48,20 +48,21 @@ input() {
 build() {
     mkdir "$folder/crates"
     cp "$here/../crates.txt" "$folder/"
-    sed -e 's/#.*//' -e '/:/!d' -e 's/:.*//' "$folder/crates.txt" | while read -r crate; do
+    # It stands on what the program stands on.
+    sed -n 's/^bridge:/reading_times: serde_json/p' "$folder/crates.txt" >>"$folder/crates.txt"
+    sed -e 's/#.*//' -e '/:/!d' -e 's/:.*//' "$here/../crates.txt" | while read -r crate; do
         mkdir "$folder/crates/$crate"
         for part in src specs proofs; do
             [ ! -d "$here/../crates/$crate/$part" ] || cp -R "$here/../crates/$crate/$part" "$folder/crates/$crate/"
         done
     done
-    cd "$folder/crates/bridge_tool"
-    # The program's modules under another main.
-    sed '/^use /,$d' src/main.rt >main.rt
-    cat >>main.rt <<'PROGRAM'
+    mkdir -p "$folder/crates/reading_times/src"
+    cd "$folder/crates/reading_times"
+    cat >src/main.rt <<'PROGRAM'
+#![tactic(auto)]
 
-use crate::bytes::read_all;
-use crate::source::StdSource;
-use bridge_read::input::read_input;
+use bridge_outside::{StdSource, read_all};
+use bridge_read::read_input;
 use serde_json::Value;
 use std::io::Error;
 use std::process::ExitCode;
@@ -101,9 +102,8 @@ fn main(rt: HostRuntime) -> ExitCode {
     ExitCode::from(0)
 }
 PROGRAM
-    mv main.rt src/main.rt
     input 1000 | rt run >/dev/null
-    program=$folder/crates/bridge_tool/out/bridge_tool
+    program=$folder/crates/reading_times/out/reading_times
 }
 
 if [ $# -ge 1 ]; then program=$1; else build; fi

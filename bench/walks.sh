@@ -8,9 +8,9 @@ folder=$(mktemp -d)
 trap 'rm -rf -- "$folder"' EXIT INT TERM
 
 mkdir "$folder/crates"
-printf '%s\n' 'bridge_ast: sqlite_items unicode_ident' 'hir_life: bridge_ast smallvec sqlite_items' \
-    'walk_times: bridge_ast hir_life sqlite_items anyhow' >"$folder/crates.txt"
-for crate in bridge_ast hir_life; do
+sed -n -e '/^bridge_decl:/p' -e '/^hir_life:/p' "$here/../crates.txt" >"$folder/crates.txt"
+echo 'walk_times: bridge_decl hir_life smallvec sqlite_items anyhow' >>"$folder/crates.txt"
+for crate in bridge_decl hir_life; do
     mkdir "$folder/crates/$crate"
     for part in src specs proofs; do
         cp -R "$here/../crates/$crate/$part" "$folder/crates/$crate/"
@@ -22,7 +22,7 @@ cd walk_times
 cat >src/main.rt <<'PROGRAM'
 #![tactic(auto)]
 
-use bridge_ast::idents::IdentBuf;
+use bridge_decl::IdentBuf;
 use hir_life::{BoundedLifetime, Lifetime, LifetimeEnv, LifetimeList, Steps};
 use sqlite_items::Items;
 use std::alloc::Global;
