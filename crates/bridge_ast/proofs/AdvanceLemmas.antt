@@ -1,4 +1,4 @@
--- Walks along paths that take aliases to their ends.
+-- Trails along paths that take aliases to their ends.
 use Rattle.std.proofs.Common.{◌≡◌, ℕ, zero, suc, ◌+◌, ◌<◌, ◌≤◌, ◌^◌, Bool, true, false, cond, List, [], ◌∷◌, ◌++◌, length}
 use Rattle.std.proofs.Common.{length-append, drop, drop-cons, get_or, Option, Some, None, refl, sym, ap, ◌∙◌, arith, subst, codes}
 use Rattle.std.proofs.Common.{inl, inr, ◌⊎◌}
@@ -10,27 +10,28 @@ use Rattle.std.proofs.lemmas.List.{drop_all}
 use Rattle.bridge_decl.specs.declared.modules.Alias.{Alias}
 use Rattle.bridge_decl.specs.declared.modules.Item.{Item}
 use Rattle.bridge_decl.specs.declared.modules.Module.{Module}
-use Rattle.bridge_ast.specs.declared.environment.fault.EnvPart.{EnvPart}
-use Rattle.bridge_ast.specs.declared.environment.fault.EnvPart.TheVariants as part
-use Rattle.bridge_ast.specs.declared.environment.walk.Advance.{Advance}
-use Rattle.bridge_ast.specs.declared.environment.walk.Advance.TheVariants.{Comes, Waits, Stops}
-use Rattle.bridge_ast.specs.declared.environment.walk.Head.{Head}
-use Rattle.bridge_ast.specs.declared.environment.walk.Head.TheVariants.{Start, Supers, Names}
-use Rattle.bridge_ast.specs.declared.environment.walk.ItemPlace.{ItemPlace}
-use Rattle.bridge_ast.specs.declared.environment.walk.Next.{Next}
-use Rattle.bridge_ast.specs.declared.environment.walk.Next.TheVariants as next
-use Rattle.bridge_ast.specs.declared.environment.walk.Stand.TheVariants as stand
-use Rattle.bridge_ast.specs.declared.environment.walk.Walk.{Walk}
-use Rattle.bridge_ast.specs.AliasEnds.{IsAlias, AreEnds, KnowsEnds, AliasAdvances, Advances, alias_leads, waits_at}
-use Rattle.bridge_ast.specs.Pairs.{pair_cmp}
+use Rattle.bridge_ast.specs.declared.fault.EnvPart.{EnvPart}
+use Rattle.bridge_ast.specs.declared.fault.EnvPart.TheVariants as part
+use Rattle.bridge_ast.specs.declared.trail.Advance.{Advance}
+use Rattle.bridge_ast.specs.declared.trail.Advance.TheVariants.{Comes, Waits, Stops}
+use Rattle.bridge_ast.specs.declared.trail.Head.{Head}
+use Rattle.bridge_ast.specs.declared.trail.Head.TheVariants.{Start, Supers, Names}
+use Rattle.bridge_ast.specs.declared.place.ItemPlace.{ItemPlace}
+use Rattle.bridge_ast.specs.declared.trail.Next.{Next}
+use Rattle.bridge_ast.specs.declared.trail.Next.TheVariants as next
+use Rattle.bridge_ast.specs.declared.trail.Stand.TheVariants as stand
+use Rattle.bridge_ast.specs.declared.trail.Trail.{Trail}
+use Rattle.bridge_decl.specs.NameIndex.{meaning_of}
+use Rattle.bridge_ast.specs.inside.AliasEnds.{IsAlias, AreEnds, KnowsEnds, AliasAdvances, TrailAdvances, alias_leads, waits_at}
+use Rattle.bridge_ast.specs.inside.Pairs.{pair_cmp}
 use Rattle.bridge_ast.specs.Each.{each_after}
-use Rattle.bridge_ast.specs.EnvFaults.{Named, module_at, named_at, part_named, parent_and_last}
+use Rattle.bridge_ast.specs.EnvFaults.{Named, module_at, named_at, parent_and_last}
 use Rattle.bridge_decl.specs.Names.{item_name}
-use Rattle.bridge_ast.specs.Resolution.{path_at, target_at, by_name, to_part, to_submodule, to_module, to_parent, next_of, leads}
-use Rattle.bridge_ast.specs.Resolution.{again_within, item_last}
-use Rattle.bridge_ast.specs.Walks.{after_taking, leads_within, at_end, stands_at, carried_on, carried_to_end, IsInside, IsModule}
+use Rattle.bridge_ast.specs.inside.Resolution.{path_at, target_at, by_name, to_part, to_submodule, to_module, to_parent, next_of, leads}
+use Rattle.bridge_ast.specs.inside.Resolution.{again_within, item_last}
+use Rattle.bridge_ast.specs.inside.Trails.{after_taking, leads_within, at_end, stands_at, carried_on, carried_to_end, IsInside, IsModule}
 use Rattle.bridge_ast.proofs.StepLemmas.{taking_too_many, taking_same, taking_none, taking_both}
-use Rattle.bridge_ast.proofs.WalkLemmas.{next_inside}
+use Rattle.bridge_ast.proofs.TrailLemmas.{next_inside}
 
 -- ---- one segment
 
@@ -55,8 +56,8 @@ item_end : (number item : ℕ) (rest : List (List ℕ)) → item_last number ite
 item_end number item [] = refl
 item_end number item (segment ∷ rest) = refl
 
-module _ (modules : List Module) (ends : BTreeMap (ℕ × ℕ) Walk) (number : ℕ) (head : Head) (taken : ℕ) (segment : List ℕ) where
-  abbrev here : Walk
+module _ (modules : List Module) (ends : BTreeMap (ℕ × ℕ) Trail) (number : ℕ) (head : Head) (taken : ℕ) (segment : List ℕ) where
+  abbrev here : Trail
   here = record { stand = stand.Module number head; steps = taken }
 
   stepped : (step : Next) (total : ℕ) (rest : List (List ℕ)) → next_of modules number head segment ≡ step
@@ -68,7 +69,7 @@ module _ (modules : List Module) (ends : BTreeMap (ℕ × ℕ) Walk) (number : �
       (λ left _. leads_by (again_within left modules) modules number head segment rest step e)
 
   pub advance_goes : (to : ℕ) (after : Head) → IsModule modules number → next.Goes to after ≡ next_of modules number head segment
-      → Advances modules ends here segment (Comes (record { stand = stand.Module to after; steps = taken }))
+      → TrailAdvances modules ends here segment (Comes (record { stand = stand.Module to after; steps = taken }))
   advance_goes to after is_module e = (
     next_inside modules number head segment is_module to after (sym e),
     omega arith,
@@ -76,7 +77,7 @@ module _ (modules : List Module) (ends : BTreeMap (ℕ × ℕ) Walk) (number : �
   )
 
   pub advance_item : (item : ℕ) → next.Item item ≡ next_of modules number head segment
-      → Advances modules ends here segment (Comes (record {
+      → TrailAdvances modules ends here segment (Comes (record {
         stand = stand.Item (record { «module» = number; item = item });
         steps = taken;
       }))
@@ -89,14 +90,14 @@ module _ (modules : List Module) (ends : BTreeMap (ℕ × ℕ) Walk) (number : �
         (λ left. at_end (record { «module» = number; item = item }) rest) (omega arith) (λ left _. item_end number item rest),
   )
 
-  pub advance_nothing : next.Nothing ≡ next_of modules number head segment → Advances modules ends here segment Stops
+  pub advance_nothing : next.Nothing ≡ next_of modules number head segment → TrailAdvances modules ends here segment Stops
   advance_nothing e =
       λ total rest few. stepped next.Nothing total rest (sym e) ∙ taking_none taken total (suc total) (λ left. None) (omega arith)
       (λ left _. refl)
 
   advance_by : (alias : ℕ) (r : Advance) → IsAlias modules (number, alias) → ((total : ℕ) (rest : List (List ℕ))
       → carried_on total modules here (segment ∷ rest) ≡ waits_at total modules taken (number, alias) rest)
-      → AliasAdvances modules ends taken (number, alias) r → Advances modules ends here segment r
+      → AliasAdvances modules ends taken (number, alias) r → TrailAdvances modules ends here segment r
   advance_by alias (Comes after) is_alias waits told =
       (told.0, told.1, λ total rest few. waits total rest ∙ told.2 total rest few)
   advance_by alias (Waits which) is_alias waits told =
@@ -118,27 +119,27 @@ first_item : (b : Bool) (n i : ℕ) (others : Option EnvPart) → cond b (Some (
 first_item true n i others h = absurd cc
 first_item false n i others h = h
 
-aliases_below : (before aliases : List Alias) (name : List ℕ) (i : ℕ) → part_named
+aliases_below : (before aliases : List Alias) (name : List ℕ) (i : ℕ) → meaning_of
     (each_after (λ earlier alias. (alias.name, part.Alias (length earlier)) ∷ []) before aliases) name ≡ Some (part.Alias i)
     → i < length before + length aliases
 aliases_below before [] name i h = absurd cc
 aliases_below before (alias ∷ aliases) name i h =
-    elim (first_alias (bytes_eq alias.name name) (length before) i (part_named
+    elim (first_alias (bytes_eq alias.name name) (length before) i (meaning_of
     (each_after (λ earlier x. (x.name, part.Alias (length earlier)) ∷ []) (before ++ alias ∷ []) aliases) name) h) [
       | inl same ↦ omega (arith, same)
       | inr later ↦ omega (arith, length-append before (alias ∷ []), aliases_below (before ++ alias ∷ []) aliases name i later)
     ]
 
 items_skipped : (before items : List Item) (names : List Named) (name : List ℕ) (i : ℕ)
-    → part_named (each_after (λ earlier item. (item_name item, part.Item (length earlier)) ∷ []) before items ++ names) name
-    ≡ Some (part.Alias i) → part_named names name ≡ Some (part.Alias i)
+    → meaning_of (each_after (λ earlier item. (item_name item, part.Item (length earlier)) ∷ []) before items ++ names) name
+    ≡ Some (part.Alias i) → meaning_of names name ≡ Some (part.Alias i)
 items_skipped before [] names name i h = h
 items_skipped before (item ∷ items) names name i h =
     items_skipped (before ++ item ∷ []) items names name i
-    (first_item (bytes_eq (item_name item) name) (length before) i (part_named
+    (first_item (bytes_eq (item_name item) name) (length before) i (meaning_of
     (each_after (λ earlier x. (item_name x, part.Item (length earlier)) ∷ []) (before ++ item ∷ []) items ++ names) name) h)
 
-alias_named : (modules : List Module) (number : ℕ) (name : List ℕ) (i : ℕ) → part_named (named_at modules number) name ≡ Some
+alias_named : (modules : List Module) (number : ℕ) (name : List ℕ) (i : ℕ) → meaning_of (named_at modules number) name ≡ Some
     (part.Alias i) → IsAlias modules (number, i)
 alias_named [] number name i h = absurd cc
 alias_named (m ∷ modules) zero name i h =
@@ -170,7 +171,7 @@ submodule_leads modules number None named is alias e = part_leads modules number
 name_leads : (modules : List Module) (number : ℕ) (name : List ℕ) → LeadsToAlias modules number (by_name modules number name)
 name_leads modules number name =
     submodule_leads modules number (module_at modules (path_at modules number ++ name ∷ []))
-    (part_named (named_at modules number) name) (λ i h. alias_named modules number name i h)
+    (meaning_of (named_at modules number) name) (λ i h. alias_named modules number name i h)
 
 module_leads : (modules : List Module) (number : ℕ) (found : Option ℕ) → LeadsToAlias modules number (to_module found)
 module_leads modules number (Some n) alias e = absurd cc
@@ -204,37 +205,37 @@ pub alias_is : (modules : List Module) (number : ℕ) (head : Head) (segment : L
     → next.Alias alias ≡ next_of modules number head segment → IsAlias modules (number, alias)
 alias_is modules number head segment alias e = next_leads modules number head segment alias (sym e)
 
-pub advance_alias : (modules : List Module) (ends : BTreeMap (ℕ × ℕ) Walk) (number : ℕ) (head : Head) (taken : ℕ)
+pub advance_alias : (modules : List Module) (ends : BTreeMap (ℕ × ℕ) Trail) (number : ℕ) (head : Head) (taken : ℕ)
     (segment : List ℕ) (alias : ℕ) (r : Advance)
     → next.Alias alias ≡ next_of modules number head segment → (IsAlias modules (number, alias)
-    → AliasAdvances modules ends taken (number, alias) r) → Advances modules ends
+    → AliasAdvances modules ends taken (number, alias) r) → TrailAdvances modules ends
     (record { stand = stand.Module number head; steps = taken }) segment r
 advance_alias modules ends number head taken segment alias r e told =
     let is_alias = alias_is modules number head segment alias e in
     advance_by modules ends number head taken segment alias r is_alias (λ total rest. stepped modules ends number head taken
     segment (next.Alias alias) total rest (sym e)) (told is_alias)
 
-pub advance_past : (modules : List Module) (ends : BTreeMap (ℕ × ℕ) Walk) (walk : Walk) (place : ItemPlace) (segment : List ℕ)
-    → walk.stand ≡ stand.Item place → Advances modules ends walk segment Stops
-advance_past modules ends walk place segment is = λ total rest few.
-    taking_none walk.steps total (suc total) (λ left. stands_at left modules walk.stand (segment ∷ rest)) (omega arith)
+pub advance_past : (modules : List Module) (ends : BTreeMap (ℕ × ℕ) Trail) (trail : Trail) (place : ItemPlace) (segment : List ℕ)
+    → trail.stand ≡ stand.Item place → TrailAdvances modules ends trail segment Stops
+advance_past modules ends trail place segment is = λ total rest few.
+    taking_none trail.steps total (suc total) (λ left. stands_at left modules trail.stand (segment ∷ rest)) (omega arith)
     (λ left _. ap (λ s. stands_at left modules s (segment ∷ rest)) is)
 
-pub advance_module : (modules : List Module) (ends : BTreeMap (ℕ × ℕ) Walk) (walk : Walk) (number : ℕ) (head : Head)
-    (segment : List ℕ) (r : Advance) → walk.stand ≡ stand.Module number head
-    → (IsModule modules number → Advances modules ends (record { stand = stand.Module number head; steps = walk.steps }) segment
-    r) → IsInside modules walk.stand → Advances modules ends walk segment r
-advance_module modules ends walk number head segment r is told inside =
-    subst (λ s. Advances modules ends (record { stand = s; steps = walk.steps }) segment r) (sym is)
+pub advance_module : (modules : List Module) (ends : BTreeMap (ℕ × ℕ) Trail) (trail : Trail) (number : ℕ) (head : Head)
+    (segment : List ℕ) (r : Advance) → trail.stand ≡ stand.Module number head
+    → (IsModule modules number → TrailAdvances modules ends (record { stand = stand.Module number head; steps = trail.steps }) segment
+    r) → IsInside modules trail.stand → TrailAdvances modules ends trail segment r
+advance_module modules ends trail number head segment r is told inside =
+    subst (λ s. TrailAdvances modules ends (record { stand = s; steps = trail.steps }) segment r) (sym is)
     (told (subst (IsInside modules) is inside))
 
 -- ---- an alias with its end
 
-pub alias_waits : (modules : List Module) (ends : BTreeMap (ℕ × ℕ) Walk) (taken : ℕ) (alias : ℕ × ℕ)
+pub alias_waits : (modules : List Module) (ends : BTreeMap (ℕ × ℕ) Trail) (taken : ℕ) (alias : ℕ × ℕ)
     → get pair_cmp ends alias ≡ None → AliasAdvances modules ends taken alias (Waits alias)
 alias_waits modules ends taken alias unknown = (refl, unknown)
 
-module _ (modules : List Module) (ends : BTreeMap (ℕ × ℕ) Walk) (taken : ℕ) (alias : ℕ × ℕ) (end : Walk)
+module _ (modules : List Module) (ends : BTreeMap (ℕ × ℕ) Trail) (taken : ℕ) (alias : ℕ × ℕ) (end : Trail)
     (are : AreEnds ends modules) (found : get pair_cmp ends alias ≡ Some end) where
   led_on : (total : ℕ) (rest : List (List ℕ)) → total < 2 ^ 128 → waits_at total modules taken alias rest ≡ option_and_then
       (λ left. stands_at left modules end.stand rest) (after_taking (taken + end.steps) total)
@@ -261,13 +262,13 @@ module _ (modules : List Module) (ends : BTreeMap (ℕ × ℕ) Walk) (taken : �
       led_on total rest few ∙ ap (λ o. option_and_then (λ left. stands_at left modules end.stand rest) o)
       (taking_too_many (taken + end.steps) total past)
 
--- ---- a whole walk
+-- ---- a whole trail
 
--- a walk along a path has come to a position
-abbrev pub HasCome : List Module → ℕ → List (List ℕ) → ℕ → Walk → Type 0
-HasCome modules number segments i walk =
-    IsInside modules walk.stand × ((steps : ℕ) → steps < 2 ^ 128 → leads_within steps modules number Start segments
-    ≡ carried_on steps modules walk (drop i segments))
+-- a trail along a path has come to a position
+abbrev pub HasCome : List Module → ℕ → List (List ℕ) → ℕ → Trail → Type 0
+HasCome modules number segments i trail =
+    IsInside modules trail.stand × ((steps : ℕ) → steps < 2 ^ 128 → leads_within steps modules number Start segments
+    ≡ carried_on steps modules trail (drop i segments))
 
 pub ahead : (segments : List (List ℕ)) (i : ℕ) (segment : List ℕ) → i < length segments → segment ≡ get_or segments i segment
     → drop i segments ≡ segment ∷ drop (i + 1) segments
@@ -275,30 +276,30 @@ ahead segments i segment within is =
     drop-cons segments i segment within ∙ ap (λ s. s ∷ drop (suc i) segments) (sym is)
     ∙ ap (λ n. segment ∷ drop n segments) (let more : suc i ≡ i + 1 = omega arith in more)
 
-module _ (modules : List Module) (ends : BTreeMap (ℕ × ℕ) Walk) (number : ℕ) (segments : List (List ℕ)) (i : ℕ) (segment : List ℕ)
-    (walk : Walk) (within : i < length segments) (is : segment ≡ get_or segments i segment)
-    (come : HasCome modules number segments i walk) where
-  so_far : (steps : ℕ) → steps < 2 ^ 128 → leads_within steps modules number Start segments ≡ carried_on steps modules walk
+module _ (modules : List Module) (ends : BTreeMap (ℕ × ℕ) Trail) (number : ℕ) (segments : List (List ℕ)) (i : ℕ) (segment : List ℕ)
+    (trail : Trail) (within : i < length segments) (is : segment ≡ get_or segments i segment)
+    (come : HasCome modules number segments i trail) where
+  so_far : (steps : ℕ) → steps < 2 ^ 128 → leads_within steps modules number Start segments ≡ carried_on steps modules trail
       (segment ∷ drop (i + 1) segments)
-  so_far steps few = come.1 steps few ∙ ap (carried_on steps modules walk) (ahead segments i segment within is)
+  so_far steps few = come.1 steps few ∙ ap (carried_on steps modules trail) (ahead segments i segment within is)
 
-  pub come_further : (after : Walk) → Advances modules ends walk segment (Comes after)
+  pub come_further : (after : Trail) → TrailAdvances modules ends trail segment (Comes after)
       → HasCome modules number segments (i + 1) after
   come_further after told = (told.0, λ steps few. so_far steps few ∙ told.2 steps (drop (i + 1) segments) few)
 
-  pub come_to_alias : (alias : ℕ × ℕ) → KnowsEnds ends modules → Advances modules ends walk segment (Waits alias) → (steps : ℕ)
+  pub come_to_alias : (alias : ℕ × ℕ) → KnowsEnds ends modules → TrailAdvances modules ends trail segment (Waits alias) → (steps : ℕ)
       → steps < 2 ^ 128 → leads_within steps modules number Start segments ≡ None
   come_to_alias alias known told steps few =
       so_far steps few ∙ told.2 steps (drop (i + 1) segments)
-      ∙ taking_none walk.steps steps (2 ^ 128) (λ left. alias_leads left modules alias (drop (i + 1) segments)) few
+      ∙ taking_none trail.steps steps (2 ^ 128) (λ left. alias_leads left modules alias (drop (i + 1) segments)) few
       (λ left less. known.nowhere alias told.0 told.1 left (drop (i + 1) segments) less)
 
-  pub come_to_stop : Advances modules ends walk segment Stops → (steps : ℕ) → steps < 2 ^ 128
+  pub come_to_stop : TrailAdvances modules ends trail segment Stops → (steps : ℕ) → steps < 2 ^ 128
       → leads_within steps modules number Start segments ≡ None
   come_to_stop told steps few = so_far steps few ∙ told steps (drop (i + 1) segments) few
 
-pub come_to_end : (modules : List Module) (number : ℕ) (segments : List (List ℕ)) (i : ℕ) (walk : Walk) → length segments ≤ i
-    → HasCome modules number segments i walk → (steps : ℕ) → steps < 2 ^ 128
-    → leads_within steps modules number Start segments ≡ carried_to_end steps modules (Some walk)
-come_to_end modules number segments i walk past come steps few =
-    come.1 steps few ∙ ap (carried_on steps modules walk) (drop_all i segments past)
+pub come_to_end : (modules : List Module) (number : ℕ) (segments : List (List ℕ)) (i : ℕ) (trail : Trail) → length segments ≤ i
+    → HasCome modules number segments i trail → (steps : ℕ) → steps < 2 ^ 128
+    → leads_within steps modules number Start segments ≡ carried_to_end steps modules (Some trail)
+come_to_end modules number segments i trail past come steps few =
+    come.1 steps few ∙ ap (carried_on steps modules trail) (drop_all i segments past)

@@ -11,14 +11,14 @@ use Rattle.std.proofs.lemmas.List.{get_or_default}
 use Rattle.std.proofs.lemmas.List.Sorted.{searched}
 use Rattle.std.proofs.lemmas.Map.Views.{list_any-from_Contains, Contains-from_any}
 use Rattle.bridge_decl.specs.declared.lifetimes.LifetimeNode.{LifetimeNode}
-use Rattle.bridge_ast.specs.declared.environment.bounds.Side.{Side}
-use Rattle.bridge_ast.specs.declared.environment.bounds.Side.TheVariants.{Longer, Shorter}
-use Rattle.bridge_ast.specs.declared.environment.fault.EnvFault.{EnvFault}
-use Rattle.bridge_ast.specs.declared.environment.fault.EnvFault.TheVariants.{Bad}
-use Rattle.bridge_ast.specs.declared.environment.fault.EnvFaultKind.TheVariants.{BoundOutOfRange, BoundOneSided}
-use Rattle.bridge_ast.specs.declared.environment.fault.EnvPlace.{EnvPlace}
+use Rattle.bridge_ast.specs.declared.bounds.Side.{Side}
+use Rattle.bridge_ast.specs.declared.bounds.Side.TheVariants.{Longer, Shorter}
+use Rattle.bridge_ast.specs.declared.fault.EnvFault.{EnvFault}
+use Rattle.bridge_ast.specs.declared.fault.EnvFault.TheVariants.{Bad}
+use Rattle.bridge_ast.specs.declared.fault.EnvFaultKind.TheVariants.{BoundOutOfRange, BoundOneSided}
+use Rattle.bridge_ast.specs.declared.fault.EnvPlace.{EnvPlace}
 use Rattle.bridge_ast.specs.Bounds.{has_number, listed, listed_at, opposite_of, in_range, answered}
-use Rattle.bridge_ast.specs.BoundLists.{AreListers}
+use Rattle.bridge_ast.specs.inside.BoundLists.{AreListers}
 use Rattle.bridge_ast.specs.EnvFaults.{IsFirst, Tells, where_so, bound_faults}
 use Rattle.bridge_ast.proofs.EachLemmas.{tells_after, first_front}
 

@@ -9,9 +9,9 @@ use Rattle.std.proofs.lemmas.List.{set_past, take_all}
 use Rattle.std.proofs.lemmas.List.Elements.{All-push, All-weaker, Contains-append_left, Contains-push, Contains-push_cases}
 use Rattle.std.proofs.lemmas.List.Sorted.{IsNonDecreasingBy-push}
 use Rattle.bridge_decl.specs.declared.lifetimes.LifetimeNode.{LifetimeNode}
-use Rattle.bridge_ast.specs.declared.environment.bounds.Side.{Side}
+use Rattle.bridge_ast.specs.declared.bounds.Side.{Side}
 use Rattle.bridge_ast.specs.Bounds.{listed}
-use Rattle.bridge_ast.specs.BoundLists.{Ascends, AddsToEach, AreListers}
+use Rattle.bridge_ast.specs.inside.BoundLists.{Ascends, AddsToEach, AreListers}
 
 contains_more : (xs : List ℕ) (i x : ℕ) (y : ℕ) → i < length xs → x ≡ get_or xs i x
     → Contains (take (i + 1) xs) y ↔ (Contains (take i xs) y ⊎ (y ≡ x))

@@ -2,9 +2,9 @@
 use Rattle.std.proofs.Common.{◌≡◌, ℕ, suc, ◌+◌, ◌<◌, ◌≤◌, List, [], ◌∷◌, ◌++◌, length, map, take, drop, get_or, refl, sym, ap}
 use Rattle.std.proofs.Common.{◌∙◌, arith, subst, append_assoc, length-take, take-append-drop, drop-cons, Result}
 use Rattle.std.proofs.lemmas.List.{take_more, take_all, length-map, get_or-map}
-use Rattle.bridge_ast.specs.Each.{each_after, each, numbered}
-use Rattle.bridge_ast.specs.declared.environment.fault.EnvFault.{EnvFault}
-use Rattle.bridge_ast.specs.declared.environment.fault.EnvFault.TheVariants.{Bad, NoMemory}
+use Rattle.bridge_ast.specs.Each.{each_after, each, each_numbered}
+use Rattle.bridge_ast.specs.declared.fault.EnvFault.{EnvFault}
+use Rattle.bridge_ast.specs.declared.fault.EnvFault.TheVariants.{Bad, NoMemory}
 use Rattle.bridge_ast.specs.EnvFaults.{IsFirst, Tells}
 
 append_nil : {A : Type 0} (xs : List A) → xs ++ [] ≡ xs
@@ -51,12 +51,12 @@ module _ {X Y : Type 0} (f : List X → X → List Y) where
 pub length_front : {X : Type 0} (xs : List X) (i : ℕ) → i < length xs → length (take i xs) ≡ i
 length_front xs i within = omega (arith, length-take i xs)
 
--- a numbered list with one element more
+-- a each_numbered list with one element more
 pub numbered_more : {X Y : Type 0} (g : ℕ → X → Y) (xs : List X) (i : ℕ) (x : X) → i < length xs → x ≡ get_or xs i x
-    → numbered g (take (i + 1) xs) ≡ numbered g (take i xs) ++ g i x ∷ []
+    → each_numbered g (take (i + 1) xs) ≡ each_numbered g (take i xs) ++ g i x ∷ []
 numbered_more g xs i x within is =
     each_more (λ before y. g (length before) y ∷ []) xs i x within is
-    ∙ ap (λ n. numbered g (take i xs) ++ g n x ∷ []) (length_front xs i within)
+    ∙ ap (λ n. each_numbered g (take i xs) ++ g n x ∷ []) (length_front xs i within)
 
 -- the first of two lists of faults decides, unless it is empty
 pub first_front : (fault : EnvFault) (xs ys : List EnvFault) → IsFirst fault xs → IsFirst fault (xs ++ ys)

@@ -1,4 +1,4 @@
--- Walks along the targets of aliases.
+-- Trails along the targets of aliases.
 use Rattle.std.proofs.Common.{◌≡◌, ℕ, zero, suc, ◌+◌, ◌<◌, ◌≤◌, ◌^◌, List, [], ◌∷◌, ◌++◌, length, take, drop, get_or, true, false}
 use Rattle.std.proofs.Common.{Option, Some, None, refl, sym, ap, ◌∙◌, arith, subst, inl, inr, ◌⊎◌}
 use Rattle.std.specs.Prelude.{option_and_then, ◌↔◌}
@@ -7,21 +7,21 @@ use Rattle.std.specs.BTreeSet.{BTreeSet, Updates, contains}
 use Rattle.std.specs.List.{list_any}
 use Rattle.std.proofs.lemmas.List.{drop_all, take_all, take_more}
 use Rattle.bridge_decl.specs.declared.modules.Module.{Module}
-use Rattle.bridge_ast.specs.declared.environment.walk.Advance.TheVariants.{Comes, Waits, Stops}
-use Rattle.bridge_ast.specs.declared.environment.walk.Head.TheVariants.{Start}
-use Rattle.bridge_ast.specs.declared.environment.walk.ItemPlace.{ItemPlace}
-use Rattle.bridge_ast.specs.declared.environment.walk.Stand.TheVariants as stand
-use Rattle.bridge_ast.specs.declared.environment.walk.Walk.{Walk}
-use Rattle.bridge_ast.specs.AliasEnds.{IsAlias, IsEnd, LeadsNowhere, Advances, alias_leads, waits_at}
-use Rattle.bridge_ast.specs.Pairs.{HasPair, pair_cmp}
-use Rattle.bridge_ast.specs.Resolution.{target_at}
-use Rattle.bridge_ast.specs.Searches.{IsFrame, IsLater, IsWaiting}
-use Rattle.bridge_ast.specs.Walks.{after_taking, carried_on, IsInside, IsModule}
+use Rattle.bridge_ast.specs.declared.trail.Advance.TheVariants.{Comes, Waits, Stops}
+use Rattle.bridge_ast.specs.declared.trail.Head.TheVariants.{Start}
+use Rattle.bridge_ast.specs.declared.place.ItemPlace.{ItemPlace}
+use Rattle.bridge_ast.specs.declared.trail.Stand.TheVariants as stand
+use Rattle.bridge_ast.specs.declared.trail.Trail.{Trail}
+use Rattle.bridge_ast.specs.inside.AliasEnds.{IsAlias, IsEnd, LeadsNowhere, TrailAdvances, alias_leads, waits_at}
+use Rattle.bridge_ast.specs.inside.Pairs.{HasPair, pair_cmp}
+use Rattle.bridge_ast.specs.inside.Resolution.{target_at}
+use Rattle.bridge_ast.specs.inside.Searches.{IsFrame, IsLater, IsWaiting}
+use Rattle.bridge_ast.specs.inside.Trails.{after_taking, carried_on, IsInside, IsModule}
 use Rattle.bridge_ast.proofs.AdvanceLemmas.{ahead}
 use Rattle.bridge_ast.proofs.PairLemmas.{pair_more}
 use Rattle.bridge_ast.proofs.EachLemmas.{length_front}
 use Rattle.bridge_ast.proofs.StepLemmas.{taking_adds}
-use Rattle.bridge_ast.proofs.WalkLemmas.{begun}
+use Rattle.bridge_ast.proofs.TrailLemmas.{begun}
 
 -- ---- the aliases of modules
 
@@ -116,10 +116,10 @@ aliases_none modules aliases empty first second = (
     none_there : (n k : ℕ) → IsAlias [] (n, k) → ⊥
     none_there n k h = omega (arith, h)
 
--- ---- a walk along a target
+-- ---- a trail along a target
 
 pub frame_begun : (modules : List Module) (alias : ℕ × ℕ) → IsAlias modules alias
-    → IsFrame modules (record { alias = alias; position = 0; walk = record { stand = stand.Module alias.0 Start; steps = 1 } })
+    → IsFrame modules (record { alias = alias; position = 0; trail = record { stand = stand.Module alias.0 Start; steps = 1 } })
 frame_begun modules alias is_alias = record {
   is_alias = is_alias;
   inside = alias_module modules alias.0 alias.1 is_alias;
@@ -132,13 +132,13 @@ frame_begun modules alias is_alias = record {
     begins zero rest = refl
     begins (suc steps) rest = begun steps modules alias.0 (target_at modules alias.0 alias.1 ++ rest)
 
-module _ (modules : List Module) (ends : BTreeMap (ℕ × ℕ) Walk) (alias : ℕ × ℕ) (i : ℕ) (walk : Walk)
-    (is_frame : IsFrame modules (record { alias = alias; position = i; walk = walk })) where
+module _ (modules : List Module) (ends : BTreeMap (ℕ × ℕ) Trail) (alias : ℕ × ℕ) (i : ℕ) (trail : Trail)
+    (is_frame : IsFrame modules (record { alias = alias; position = i; trail = trail })) where
   -- no segment is left
   pub frame_ends : (target : List (List ℕ)) → target ≡ target_at modules alias.0 alias.1 → length target ≤ i
-      → IsEnd modules alias walk × IsInside modules walk.stand
+      → IsEnd modules alias trail × IsInside modules trail.stand
   frame_ends target is past = (
-    λ steps rest few. is_frame.leads steps rest few ∙ ap (λ segments. carried_on steps modules walk (segments ++ rest))
+    λ steps rest few. is_frame.leads steps rest few ∙ ap (λ segments. carried_on steps modules trail (segments ++ rest))
         (ap (drop i) (sym is) ∙ drop_all i target past),
     is_frame.inside,
   )
@@ -146,13 +146,13 @@ module _ (modules : List Module) (ends : BTreeMap (ℕ × ℕ) Walk) (alias : �
   module _ (target : List (List ℕ)) (segment : List ℕ) (is : target ≡ target_at modules alias.0 alias.1)
       (within : i < length target) (at_place : segment ≡ get_or target i segment) where
     so_far : (steps : ℕ) (rest : List (List ℕ)) → steps < 2 ^ 128 → alias_leads steps modules alias rest
-        ≡ carried_on steps modules walk (segment ∷ (drop (i + 1) target ++ rest))
+        ≡ carried_on steps modules trail (segment ∷ (drop (i + 1) target ++ rest))
     so_far steps rest few =
-        is_frame.leads steps rest few ∙ ap (λ segments. carried_on steps modules walk (segments ++ rest))
+        is_frame.leads steps rest few ∙ ap (λ segments. carried_on steps modules trail (segments ++ rest))
         (ap (drop i) (sym is) ∙ ahead target i segment within at_place)
 
-    pub frame_further : (after : Walk) → Advances modules ends walk segment (Comes after)
-        → IsFrame modules (record { alias = alias; position = i + 1; walk = after })
+    pub frame_further : (after : Trail) → TrailAdvances modules ends trail segment (Comes after)
+        → IsFrame modules (record { alias = alias; position = i + 1; trail = after })
     frame_further after told = record {
       is_alias = is_frame.is_alias;
       inside = told.0;
@@ -162,7 +162,7 @@ module _ (modules : List Module) (ends : BTreeMap (ℕ × ℕ) Walk) (alias : �
           ∙ ap (λ segments. carried_on steps modules after (drop (i + 1) segments ++ rest)) is;
     }
 
-    pub frame_stops : Advances modules ends walk segment Stops → LeadsNowhere modules alias
+    pub frame_stops : TrailAdvances modules ends trail segment Stops → LeadsNowhere modules alias
     frame_stops told = λ steps rest few. so_far steps rest few ∙ told steps (drop (i + 1) target ++ rest) few
 
     later : (steps taken : ℕ) (next : ℕ × ℕ) (rest : List (List ℕ)) (found : Option ItemPlace) (left : Option ℕ)
@@ -180,11 +180,11 @@ module _ (modules : List Module) (ends : BTreeMap (ℕ × ℕ) Walk) (alias : �
           same = same ∙ ap (λ o. option_and_then (λ n. alias_leads n modules next rest) o) is_left;
         })
 
-    pub frame_waits : (next : ℕ × ℕ) → Advances modules ends walk segment (Waits next) → IsWaiting modules ends alias next
+    pub frame_waits : (next : ℕ × ℕ) → TrailAdvances modules ends trail segment (Waits next) → IsWaiting modules ends alias next
     frame_waits next told = record {
       waits = λ steps rest few.
-          later steps walk.steps next (drop (i + 1) target ++ rest) (alias_leads steps modules alias rest)
-          (after_taking walk.steps steps) refl is_frame.counts (so_far steps rest few
+          later steps trail.steps next (drop (i + 1) target ++ rest) (alias_leads steps modules alias rest)
+          (after_taking trail.steps steps) refl is_frame.counts (so_far steps rest few
           ∙ told.2 steps (drop (i + 1) target ++ rest));
       is_alias = told.0;
       unknown = told.1;

@@ -5,14 +5,14 @@ use Rattle.std.specs.BTreeMap.{BTreeMap}
 use Rattle.bridge_decl.specs.declared.lifetimes.LifetimeNode.{LifetimeNode}
 use Rattle.bridge_decl.specs.declared.modules.Alias.{Alias}
 use Rattle.bridge_decl.specs.declared.modules.Item.{Item}
-use Rattle.bridge_ast.specs.declared.environment.fault.EnvFault.{EnvFault}
-use Rattle.bridge_ast.specs.declared.environment.fault.EnvFaultKind.TheVariants.{DuplicateItem}
-use Rattle.bridge_ast.specs.declared.environment.fault.EnvPart.{EnvPart}
-use Rattle.bridge_ast.specs.declared.environment.fault.EnvPart.TheVariants as part
+use Rattle.bridge_ast.specs.declared.fault.EnvFault.{EnvFault}
+use Rattle.bridge_ast.specs.declared.fault.EnvFaultKind.TheVariants.{DuplicateItem}
+use Rattle.bridge_ast.specs.declared.fault.EnvPart.{EnvPart}
+use Rattle.bridge_ast.specs.declared.fault.EnvPart.TheVariants as part
 use Rattle.bridge_ast.specs.Each.{each}
 use Rattle.bridge_ast.specs.EnvFaults.{IsFirst, repeats_name, lifetime_faults, method_faults, item_faults, alias_faults}
 use Rattle.bridge_ast.specs.EnvFaults.{items_named, aliases_named, nodes_of, method_nodes_of}
-use Rattle.bridge_ast.specs.Index.{Indexes}
+use Rattle.bridge_decl.specs.NameIndex.{HasMeanings}
 use Rattle.bridge_decl.specs.Names.{item_name}
 use Rattle.bridge_ast.proofs.EachLemmas.{counted_kept, counted_stopped, numbered_more, mapped}
 
@@ -55,10 +55,10 @@ module _ (number : ℕ) (items : List Item) (i : ℕ) (x : Item) where
   item_stopped fault within is before first = counted_stopped (item_faults_at number) items i x fault within is before first
 
   pub items_named_more : (index : BTreeMap (List ℕ) EnvPart) → i < length items → x ≡ get_or items i x
-      → Indexes index (items_named (take i items) ++ (item_name x, part.Item i) ∷ [])
-      → Indexes index (items_named (take (i + 1) items))
+      → HasMeanings index (items_named (take i items) ++ (item_name x, part.Item i) ∷ [])
+      → HasMeanings index (items_named (take (i + 1) items))
   items_named_more index within is indexed =
-      subst (Indexes index) (sym (numbered_more (λ n item. (item_name item, part.Item n)) items i x within is)) indexed
+      subst (HasMeanings index) (sym (numbered_more (λ n item. (item_name item, part.Item n)) items i x within is)) indexed
 
 -- the faults of an alias of a number
 abbrev pub alias_faults_at : ℕ → List Item → ℕ → List Alias → Alias → List EnvFault
@@ -77,10 +77,10 @@ module _ (number : ℕ) (items : List Item) (aliases : List Alias) (i : ℕ) (x 
       counted_stopped (alias_faults_at number items) aliases i x fault within is before first
 
   pub aliases_named_more : (index : BTreeMap (List ℕ) EnvPart) → i < length aliases → x ≡ get_or aliases i x
-      → Indexes index ((items_named items ++ aliases_named (take i aliases)) ++ (x.name, part.Alias i) ∷ [])
-      → Indexes index (items_named items ++ aliases_named (take (i + 1) aliases))
+      → HasMeanings index ((items_named items ++ aliases_named (take i aliases)) ++ (x.name, part.Alias i) ∷ [])
+      → HasMeanings index (items_named items ++ aliases_named (take (i + 1) aliases))
   aliases_named_more index within is indexed =
-      subst (Indexes index)
+      subst (HasMeanings index)
       (append_assoc (items_named items) (aliases_named (take i aliases)) ((x.name, part.Alias i) ∷ [])
       ∙ ap (λ ns. items_named items ++ ns) (sym (numbered_more (λ n alias. (alias.name, part.Alias n)) aliases i x within is)))
       indexed

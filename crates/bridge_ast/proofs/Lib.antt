@@ -3,7 +3,7 @@ pub mod AnsweredLemmas
 pub mod BoundsLemmas
 pub mod EachLemmas
 pub mod FrameLemmas
-pub mod IndexLemmas
+pub mod FittingLemmas
 pub mod ItemLemmas
 pub mod ModuleLemmas
 pub mod NamedLemmas
@@ -11,10 +11,9 @@ pub mod NodeLemmas
 pub mod PairLemmas
 pub mod PathLemmas
 pub mod PathNameLemmas
-pub mod PlainLemmas
 pub mod ScopeLemmas
 pub mod SearchLemmas
 pub mod SoundLemmas
 pub mod StepLemmas
+pub mod TrailLemmas
 pub mod TypeNameLemmas
-pub mod WalkLemmas

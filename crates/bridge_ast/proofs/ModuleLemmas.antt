@@ -4,12 +4,12 @@ use Rattle.std.proofs.Common.{arith, subst}
 use Rattle.std.proofs.lemmas.List.{take_more, take_at}
 use Rattle.std.proofs.lemmas.Option.{slice_get_within}
 use Rattle.bridge_decl.specs.declared.modules.Module.{Module}
-use Rattle.bridge_ast.specs.declared.environment.fault.EnvFault.{EnvFault}
-use Rattle.bridge_ast.specs.declared.environment.scopes.Scope.{Scope}
+use Rattle.bridge_ast.specs.declared.fault.EnvFault.{EnvFault}
+use Rattle.bridge_ast.specs.declared.scopes.Scope.{Scope}
 use Rattle.bridge_ast.specs.Each.{each}
 use Rattle.bridge_ast.specs.EnvFaults.{IsFirst, module_at, named_in, path_faults, content_faults, module_faults, faults_of}
-use Rattle.bridge_ast.specs.Index.{Indexes}
-use Rattle.bridge_ast.specs.Scopes.{IsParent, Knows, Enters}
+use Rattle.bridge_decl.specs.NameIndex.{HasMeanings}
+use Rattle.bridge_ast.specs.inside.Scopes.{IsParent, Knows, Enters}
 use Rattle.bridge_ast.proofs.EachLemmas.{each_kept, each_stopped, first_front, first_after, none_after, length_front}
 use Rattle.bridge_ast.proofs.ScopeLemmas.{knows_more}
 
@@ -40,7 +40,7 @@ module _ (modules : List Module) (i : ℕ) (x : Module) (path : List (List ℕ))
 
   pub module_known : (old new pushed : List Scope) (parent : Option ℕ) (scope : Scope) → Knows old (take i modules)
       → module_at (take i modules) path ≡ None → IsParent (take i modules) parent path → Enters old new parent path i
-      → Indexes scope.names (named_in x) → scope.submodules.entries ≡ [] → scope.parent ≡ parent → pushed ≡ new ++ scope ∷ []
+      → HasMeanings scope.names (named_in x) → scope.submodules.entries ≡ [] → scope.parent ≡ parent → pushed ≡ new ++ scope ∷ []
       → Knows pushed (take (i + 1) modules)
   module_known old new pushed parent scope known absent is_parent enters names empty parent_is all =
       subst (λ scopes. Knows scopes (take (i + 1) modules)) (sym all)

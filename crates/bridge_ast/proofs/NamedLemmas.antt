@@ -7,25 +7,26 @@ use Rattle.std.specs.Str.{bytes_eq}
 use Rattle.bridge_decl.specs.declared.modules.Alias.{Alias}
 use Rattle.bridge_decl.specs.declared.modules.Item.{Item}
 use Rattle.bridge_decl.specs.declared.modules.Module.{Module}
-use Rattle.bridge_ast.specs.declared.environment.fault.EnvPart.{EnvPart}
-use Rattle.bridge_ast.specs.declared.environment.fault.EnvPart.TheVariants as part
+use Rattle.bridge_ast.specs.declared.fault.EnvPart.{EnvPart}
+use Rattle.bridge_ast.specs.declared.fault.EnvPart.TheVariants as part
+use Rattle.bridge_decl.specs.NameIndex.{meaning_of}
 use Rattle.bridge_ast.specs.Each.{each_after}
-use Rattle.bridge_ast.specs.EnvFaults.{Named, module_at, named_at, named_in, part_named, items_named, aliases_named, parent_and_last}
+use Rattle.bridge_ast.specs.EnvFaults.{Named, module_at, named_at, named_in, items_named, aliases_named, parent_and_last}
 use Rattle.bridge_decl.specs.Names.{item_name}
 use Rattle.bridge_ast.specs.Paths.{IsSubmodule, HasItem, HasAlias}
-use Rattle.bridge_ast.specs.Resolution.{path_at, target_at}
-use Rattle.bridge_ast.specs.Scopes.{ArePaths}
-use Rattle.bridge_ast.specs.Sound.{AllAfter, IsSoundItem, IsSoundModule, IsFree, HasParent, AreSound}
-use Rattle.bridge_ast.specs.Walks.{IsModule}
+use Rattle.bridge_ast.specs.inside.Resolution.{path_at, target_at}
+use Rattle.bridge_ast.specs.inside.Scopes.{ArePaths}
+use Rattle.bridge_ast.specs.inside.Fitting.{AllAfter, FitsItem, FitsModule, IsFree, FitsUnder, FitInOrder}
+use Rattle.bridge_ast.specs.inside.Trails.{IsModule}
 use Rattle.bridge_ast.proofs.EachLemmas.{each-append}
-use Rattle.bridge_ast.proofs.IndexLemmas.{same_text, text_itself}
+use Rattle.bridge_decl.proofs.NameIndexLemmas.{same_text, text_itself}
 use Rattle.bridge_ast.proofs.PathLemmas.{parent_and_last-snoc, module_at_some, named_at_module, slice_get_left}
-use Rattle.bridge_ast.proofs.WalkLemmas.{path_at_module}
+use Rattle.bridge_ast.proofs.TrailLemmas.{path_at_module}
 
 -- ---- lists of names
 
 -- what holds of each element after those before it, at one
-all_at : {X : Type 0} (P : List X → X → Type 0) (before xs : List X) (n : ℕ) (x : X) → AllAfter P before xs → slice_get xs n ≡ Some x → P (before ++ take n xs) x
+pub all_at : {X : Type 0} (P : List X → X → Type 0) (before xs : List X) (n : ℕ) (x : X) → AllAfter P before xs → slice_get xs n ≡ Some x → P (before ++ take n xs) x
 all_at P before [] n x all h = absurd cc
 all_at P before (y ∷ xs) zero x all h =
     let same : y ≡ x = cc in
@@ -44,26 +45,26 @@ cond_none : {V : Type 0} (b : Bool) (u : V) (o : Option V) → cond b (Some u) o
 cond_none true u o h = absurd cc
 cond_none false u o h = (refl, h)
 
-named_later : (names others : List Named) (q : List ℕ) → part_named names q ≡ None → part_named (names ++ others) q ≡ part_named others q
+named_later : (names others : List Named) (q : List ℕ) → meaning_of names q ≡ None → meaning_of (names ++ others) q ≡ meaning_of others q
 named_later [] others q h = refl
 named_later (n ∷ names) others q h =
-    let parts = cond_none (bytes_eq n.0 q) n.1 (part_named names q) h in
-    ap (λ b. cond b (Some n.1) (part_named (names ++ others) q)) parts.0 ∙ named_later names others q parts.1
+    let parts = cond_none (bytes_eq n.0 q) n.1 (meaning_of names q) h in
+    ap (λ b. cond b (Some n.1) (meaning_of (names ++ others) q)) parts.0 ∙ named_later names others q parts.1
 
-named_earlier : (names others : List Named) (q : List ℕ) (p : EnvPart) → part_named names q ≡ Some p → part_named (names ++ others) q ≡ Some p
+named_earlier : (names others : List Named) (q : List ℕ) (p : EnvPart) → meaning_of names q ≡ Some p → meaning_of (names ++ others) q ≡ Some p
 named_earlier [] others q p h = absurd cc
 named_earlier (n ∷ names) others q p h = by (bytes_eq n.0 q) (named_earlier names others q p) h
   where
-    by : (b : Bool) → (part_named names q ≡ Some p → part_named (names ++ others) q ≡ Some p) → cond b (Some n.1) (part_named names q) ≡ Some p → cond b (Some n.1) (part_named (names ++ others) q) ≡ Some p
+    by : (b : Bool) → (meaning_of names q ≡ Some p → meaning_of (names ++ others) q ≡ Some p) → cond b (Some n.1) (meaning_of names q) ≡ Some p → cond b (Some n.1) (meaning_of (names ++ others) q) ≡ Some p
     by true later e = e
     by false later e = later e
 
-named_either : (names others : List Named) (q : List ℕ) (p : EnvPart) → part_named (names ++ others) q ≡ Some p → (part_named names q ≡ Some p) ⊎ (part_named others q ≡ Some p)
+named_either : (names others : List Named) (q : List ℕ) (p : EnvPart) → meaning_of (names ++ others) q ≡ Some p → (meaning_of names q ≡ Some p) ⊎ (meaning_of others q ≡ Some p)
 named_either [] others q p h = inr h
 named_either (n ∷ names) others q p h = by (bytes_eq n.0 q) (named_either names others q p) h
   where
-    by : (b : Bool) → (part_named (names ++ others) q ≡ Some p → (part_named names q ≡ Some p) ⊎ (part_named others q ≡ Some p)) → cond b (Some n.1) (part_named (names ++ others) q) ≡ Some p
-        → (cond b (Some n.1) (part_named names q) ≡ Some p) ⊎ (part_named others q ≡ Some p)
+    by : (b : Bool) → (meaning_of (names ++ others) q ≡ Some p → (meaning_of names q ≡ Some p) ⊎ (meaning_of others q ≡ Some p)) → cond b (Some n.1) (meaning_of (names ++ others) q) ≡ Some p
+        → (cond b (Some n.1) (meaning_of names q) ≡ Some p) ⊎ (meaning_of others q ≡ Some p)
     by true later e = inl e
     by false later e = later e
 
@@ -72,10 +73,10 @@ module _ {X : Type 0} (name : X → List ℕ) (f : ℕ → EnvPart) where
   entries before xs = each_after (λ b x. (name x, f (length b)) ∷ []) before xs
 
   -- an element that a name stands for
-  element_of : (before xs : List X) (q : List ℕ) (p : EnvPart) → part_named (entries before xs) q ≡ Some p → (i : ℕ) × (x : X) × (slice_get xs i ≡ Some x) × (p ≡ f (length before + i)) × (name x ≡ q)
+  element_of : (before xs : List X) (q : List ℕ) (p : EnvPart) → meaning_of (entries before xs) q ≡ Some p → (i : ℕ) × (x : X) × (slice_get xs i ≡ Some x) × (p ≡ f (length before + i)) × (name x ≡ q)
   element_of before [] q p h = absurd cc
   element_of before (x ∷ xs) q p h =
-      elim (cond_parts (bytes_eq (name x) q) (f (length before)) p (part_named (entries (before ++ x ∷ []) xs) q) h) [
+      elim (cond_parts (bytes_eq (name x) q) (f (length before)) p (meaning_of (entries (before ++ x ∷ []) xs) q) h) [
         | inl w ↦ (0, x, refl, w.1 ∙ ap f (let e : length before ≡ length before + 0 = omega arith in e), same_text (name x) q w.0)
         | inr later ↦
             let (i, y, at_place, is, named) = element_of (before ++ x ∷ []) xs q p later in
@@ -83,35 +84,35 @@ module _ {X : Type 0} (name : X → List ℕ) (f : ℕ → EnvPart) where
       ]
 
   -- a name stands for the element that has it, where no earlier one has it
-  part_of_element : (front : List Named) (before xs : List X) (i : ℕ) (x : X) → AllAfter (λ b y. part_named (front ++ entries [] b) (name y) ≡ None) before xs → slice_get xs i ≡ Some x
-      → part_named (front ++ entries [] (before ++ xs)) (name x) ≡ Some (f (length before + i))
+  part_of_element : (front : List Named) (before xs : List X) (i : ℕ) (x : X) → AllAfter (λ b y. meaning_of (front ++ entries [] b) (name y) ≡ None) before xs → slice_get xs i ≡ Some x
+      → meaning_of (front ++ entries [] (before ++ xs)) (name x) ≡ Some (f (length before + i))
   part_of_element front before [] i x all h = absurd cc
   part_of_element front before (y ∷ xs) zero x all h =
       let same : y ≡ x = cc in
-      ap (λ ns. part_named (front ++ ns) (name x)) (each-append (λ b z. (name z, f (length b)) ∷ []) [] before (y ∷ xs))
-      ∙ ap (λ ns. part_named ns (name x)) (sym (append_assoc front (entries [] before) (entries before (y ∷ xs))))
-      ∙ named_later (front ++ entries [] before) (entries before (y ∷ xs)) (name x) (subst (λ z. part_named (front ++ entries [] before) (name z) ≡ None) same all.0)
-      ∙ ap (λ b. cond b (Some (f (length before))) (part_named (entries (before ++ y ∷ []) xs) (name x))) (ap (λ z. bytes_eq (name z) (name x)) same ∙ text_itself (name x))
+      ap (λ ns. meaning_of (front ++ ns) (name x)) (each-append (λ b z. (name z, f (length b)) ∷ []) [] before (y ∷ xs))
+      ∙ ap (λ ns. meaning_of ns (name x)) (sym (append_assoc front (entries [] before) (entries before (y ∷ xs))))
+      ∙ named_later (front ++ entries [] before) (entries before (y ∷ xs)) (name x) (subst (λ z. meaning_of (front ++ entries [] before) (name z) ≡ None) same all.0)
+      ∙ ap (λ b. cond b (Some (f (length before))) (meaning_of (entries (before ++ y ∷ []) xs) (name x))) (ap (λ z. bytes_eq (name z) (name x)) same ∙ text_itself (name x))
       ∙ ap (λ n. Some (f n)) (let e : length before ≡ length before + 0 = omega arith in e)
   part_of_element front before (y ∷ xs) (suc i) x all h =
-      ap (λ zs. part_named (front ++ entries [] zs) (name x)) (sym (append_assoc before (y ∷ []) xs))
+      ap (λ zs. meaning_of (front ++ entries [] zs) (name x)) (sym (append_assoc before (y ∷ []) xs))
       ∙ part_of_element front (before ++ y ∷ []) xs i x all.1 h
       ∙ ap (λ n. Some (f n)) (let e : length (before ++ y ∷ []) + i ≡ length before + suc i = omega (arith, length-append before (y ∷ [])) in e)
 
   -- the same of a whole list
-  pub element_at : (xs : List X) (q : List ℕ) (p : EnvPart) → part_named (entries [] xs) q ≡ Some p → (i : ℕ) × (x : X) × (slice_get xs i ≡ Some x) × (p ≡ f i) × (name x ≡ q)
+  pub element_at : (xs : List X) (q : List ℕ) (p : EnvPart) → meaning_of (entries [] xs) q ≡ Some p → (i : ℕ) × (x : X) × (slice_get xs i ≡ Some x) × (p ≡ f i) × (name x ≡ q)
   element_at xs q p h =
       let (i, x, at_place, is, named) = element_of [] xs q p h in
       (i, x, at_place, is ∙ ap f (let e : length {A = X} [] + i ≡ i = omega arith in e), named)
 
-  pub part_at : (front : List Named) (xs : List X) (i : ℕ) (x : X) → AllAfter (λ b y. part_named (front ++ entries [] b) (name y) ≡ None) [] xs → slice_get xs i ≡ Some x
-      → part_named (front ++ entries [] xs) (name x) ≡ Some (f i)
+  pub part_at : (front : List Named) (xs : List X) (i : ℕ) (x : X) → AllAfter (λ b y. meaning_of (front ++ entries [] b) (name y) ≡ None) [] xs → slice_get xs i ≡ Some x
+      → meaning_of (front ++ entries [] xs) (name x) ≡ Some (f i)
   part_at front xs i x all h = part_of_element front [] xs i x all h ∙ ap (λ n. Some (f n)) (let e : length {A = X} [] + i ≡ i = omega arith in e)
 
 -- ---- one module
 
 module _ (m : Module) where
-  item_in : (name : List ℕ) (item : ℕ) → part_named (named_in m) name ≡ Some (part.Item item) → (x : Item) × (slice_get m.items item ≡ Some x) × (item_name x ≡ name)
+  item_in : (name : List ℕ) (item : ℕ) → meaning_of (named_in m) name ≡ Some (part.Item item) → (x : Item) × (slice_get m.items item ≡ Some x) × (item_name x ≡ name)
   item_in name item h =
       elim (named_either (items_named m.items) (aliases_named m.aliases) name (part.Item item) h) [
         | inl found ↦
@@ -121,7 +122,7 @@ module _ (m : Module) where
         | inr found ↦ let (i, x, at_place, is, named) = element_at (λ (a : Alias). a.name) (λ n. part.Alias n) m.aliases name (part.Item item) found in absurd cc
       ]
 
-  alias_in : (name : List ℕ) (alias : ℕ) → part_named (named_in m) name ≡ Some (part.Alias alias) → (x : Alias) × (slice_get m.aliases alias ≡ Some x) × (x.name ≡ name)
+  alias_in : (name : List ℕ) (alias : ℕ) → meaning_of (named_in m) name ≡ Some (part.Alias alias) → (x : Alias) × (slice_get m.aliases alias ≡ Some x) × (x.name ≡ name)
   alias_in name alias h =
       elim (named_either (items_named m.items) (aliases_named m.aliases) name (part.Alias alias) h) [
         | inl found ↦ let (i, x, at_place, is, named) = element_at item_name (λ n. part.Item n) m.items name (part.Alias alias) found in absurd cc
@@ -131,14 +132,14 @@ module _ (m : Module) where
             (x, subst (λ n. slice_get m.aliases n ≡ Some x) same at_place, named)
       ]
 
-  module _ (before : List Module) (sound : IsSoundModule before m) where
-    item_stands : (item : ℕ) (x : Item) → slice_get m.items item ≡ Some x → part_named (named_in m) (item_name x) ≡ Some (part.Item item)
+  module _ (before : List Module) (sound : FitsModule before m) where
+    item_stands : (item : ℕ) (x : Item) → slice_get m.items item ≡ Some x → meaning_of (named_in m) (item_name x) ≡ Some (part.Item item)
     item_stands item x h =
         named_earlier (items_named m.items) (aliases_named m.aliases) (item_name x) (part.Item item)
         (part_at item_name (λ n. part.Item n) [] m.items item x
-        (all_map IsSoundItem (λ b y. part_named (items_named b) (item_name y) ≡ None) (λ b y s. s.new) [] m.items sound.items) h)
+        (all_map FitsItem (λ b y. meaning_of (items_named b) (item_name y) ≡ None) (λ b y s. s.new) [] m.items sound.items) h)
 
-    alias_stands : (alias : ℕ) (x : Alias) → slice_get m.aliases alias ≡ Some x → part_named (named_in m) x.name ≡ Some (part.Alias alias)
+    alias_stands : (alias : ℕ) (x : Alias) → slice_get m.aliases alias ≡ Some x → meaning_of (named_in m) x.name ≡ Some (part.Alias alias)
     alias_stands alias x h = part_at (λ (a : Alias). a.name) (λ n. part.Alias n) (items_named m.items) m.aliases alias x sound.aliases h
 
 -- ---- all modules
@@ -147,7 +148,7 @@ pub pair_parts : {A B : Type 0} (a c : A) (b d : B) → ◌≡◌ {A = Option (A
 pair_parts {A = A} {B = B} a c b d h = let pair : ◌≡◌ {A = A × B} (a, b) (c, d) = cc in (ap (λ (p : A × B). p.0) pair, ap (λ (p : A × B). p.1) pair)
 
 -- a path with a last segment is that of its parent with the segment
-whole : (path parent : List (List ℕ)) (last : List ℕ) → parent_and_last path ≡ Some (parent, last) → path ≡ parent ++ last ∷ []
+pub whole : (path parent : List (List ℕ)) (last : List ℕ) → parent_and_last path ≡ Some (parent, last) → path ≡ parent ++ last ∷ []
 whole [] parent last h = absurd cc
 whole (s ∷ []) parent last h = let (p, l) = pair_parts [] parent s last h in ap (λ x. x ∷ []) l ∙ ap (λ xs. xs ++ last ∷ []) p
 whole (s ∷ t ∷ path) parent last h = by (parent_and_last (t ∷ path)) (whole (t ∷ path)) refl h
@@ -159,11 +160,11 @@ whole (s ∷ t ∷ path) parent last h = by (parent_and_last (t ∷ path)) (whol
         let (p, same) = pair_parts (s ∷ above) parent l last g in
         ap (λ xs. s ∷ xs) (shorter above l e) ∙ ap (λ x. s ∷ above ++ x ∷ []) same ∙ ap (λ xs. xs ++ last ∷ []) p
 
-in_front : {X : Type 0} (xs : List X) (n k : ℕ) (x : X) → slice_get (take n xs) k ≡ Some x → slice_get xs k ≡ Some x
+pub in_front : {X : Type 0} (xs : List X) (n k : ℕ) (x : X) → slice_get (take n xs) k ≡ Some x → slice_get xs k ≡ Some x
 in_front xs n k x h = ap (λ ys. slice_get ys k) (sym (take-append-drop n xs)) ∙ slice_get_left (take n xs) (drop n xs) k x h
 
-free_under : (before : List Module) (path : List (List ℕ)) (name : List ℕ) (found : Option ℕ) → module_at before path ≡ found → IsFree before found name
-    → (k : ℕ) × (module_at before path ≡ Some k) × (part_named (named_at before k) name ≡ None)
+pub free_under : (before : List Module) (path : List (List ℕ)) (name : List ℕ) (found : Option ℕ) → module_at before path ≡ found → IsFree before found name
+    → (k : ℕ) × (module_at before path ≡ Some k) × (meaning_of (named_at before k) name ≡ None)
 free_under before path name None e free = absurd free
 free_under before path name (Some k) e free = (k, e, free)
 
@@ -174,7 +175,7 @@ target_at_alias modules number alias m a h g =
     (slice_get-map (λ (x : Module). map (λ (y : Alias). y.target) x.aliases) modules number ∙ ap (option_map (λ (x : Module). map (λ (y : Alias). y.target) x.aliases)) h))
     ∙ get_or_from_slice_get (map (λ (y : Alias). y.target) m.aliases) alias a.target [] (slice_get-map (λ (y : Alias). y.target) m.aliases alias ∙ ap (option_map (λ (y : Alias). y.target)) g)
 
-module _ (modules : List Module) (are : ArePaths modules) (sound : AreSound modules) where
+module _ (modules : List Module) (are : ArePaths modules) (sound : FitInOrder modules) where
   -- submodules and parents
 
   pub submodule_found : (outer : ℕ) (name : List ℕ) (inner : ℕ) → IsSubmodule modules outer name inner → module_at modules (path_at modules outer ++ name ∷ []) ≡ Some inner
@@ -203,20 +204,20 @@ module _ (modules : List Module) (are : ArePaths modules) (sound : AreSound modu
 
   -- a name of a submodule is that of no item and no alias
 
-  free : (number : ℕ) (name : List ℕ) (below : ℕ) → IsSubmodule modules number name below → part_named (named_at modules number) name ≡ None
+  free : (number : ℕ) (name : List ℕ) (below : ℕ) → IsSubmodule modules number name below → meaning_of (named_at modules number) name ≡ None
   free number name below sub =
-      let child = all_at IsSoundModule [] modules below sub.child sound sub.inner_is in
-      let has = subst (HasParent (take below modules)) (ap parent_and_last sub.ends ∙ parent_and_last-snoc sub.parent.path name) child.parent in
+      let child = all_at FitsModule [] modules below sub.child sound sub.inner_is in
+      let has = subst (FitsUnder (take below modules)) (ap parent_and_last sub.ends ∙ parent_and_last-snoc sub.parent.path name) child.parent in
       let (k, at_path, absent) = free_under (take below modules) sub.parent.path name (module_at (take below modules) sub.parent.path) refl has in
       let there = module_at_some (take below modules) sub.parent.path k at_path in
       let stands = in_front modules below k there.0 there.1 in
       let both : Some k ≡ Some number = sym (are.distinct k there.0 stands) ∙ ap (module_at modules) there.2 ∙ are.distinct number sub.parent sub.outer_is in
       let same : k ≡ number = cc in
-      ap (λ n. part_named (named_at modules n) name) (sym same)
-      ∙ ap (λ ns. part_named ns name) (named_at_module modules k there.0 stands ∙ sym (named_at_module (take below modules) k there.0 there.1))
+      ap (λ n. meaning_of (named_at modules n) name) (sym same)
+      ∙ ap (λ ns. meaning_of ns name) (named_at_module modules k there.0 stands ∙ sym (named_at_module (take below modules) k there.0 there.1))
       ∙ absent
 
-  no_submodule : (number : ℕ) (name : List ℕ) (p : EnvPart) → IsModule modules number → part_named (named_at modules number) name ≡ Some p → module_at modules (path_at modules number ++ name ∷ []) ≡ None
+  no_submodule : (number : ℕ) (name : List ℕ) (p : EnvPart) → IsModule modules number → meaning_of (named_at modules number) name ≡ Some p → module_at modules (path_at modules number ++ name ∷ []) ≡ None
   no_submodule number name p is_module named = by (module_at modules (path_at modules number ++ name ∷ [])) refl
     where
       by : (found : Option ℕ) → module_at modules (path_at modules number ++ name ∷ []) ≡ found → module_at modules (path_at modules number ++ name ∷ []) ≡ None
@@ -225,31 +226,31 @@ module _ (modules : List Module) (are : ArePaths modules) (sound : AreSound modu
 
   -- items
 
-  pub item_found : (number : ℕ) (name : List ℕ) (item : ℕ) → HasItem modules number name item → (module_at modules (path_at modules number ++ name ∷ []) ≡ None) × (part_named (named_at modules number) name ≡ Some (part.Item item))
+  pub item_found : (number : ℕ) (name : List ℕ) (item : ℕ) → HasItem modules number name item → (module_at modules (path_at modules number ++ name ∷ []) ≡ None) × (meaning_of (named_at modules number) name ≡ Some (part.Item item))
   item_found number name item has =
-      let named : part_named (named_at modules number) name ≡ Some (part.Item item) =
-      (ap (λ ns. part_named ns name) (named_at_module modules number has.owner has.owner_is) ∙ ap (part_named (named_in has.owner)) (sym has.name_is)
-      ∙ item_stands has.owner (take number modules) (all_at IsSoundModule [] modules number has.owner sound has.owner_is) item has.found has.found_is)
+      let named : meaning_of (named_at modules number) name ≡ Some (part.Item item) =
+      (ap (λ ns. meaning_of ns name) (named_at_module modules number has.owner has.owner_is) ∙ ap (meaning_of (named_in has.owner)) (sym has.name_is)
+      ∙ item_stands has.owner (take number modules) (all_at FitsModule [] modules number has.owner sound has.owner_is) item has.found has.found_is)
       in
       (no_submodule number name (part.Item item) (has.owner, has.owner_is) named, named)
 
-  pub item_from : (number : ℕ) (name : List ℕ) (item : ℕ) → IsModule modules number → part_named (named_at modules number) name ≡ Some (part.Item item) → HasItem modules number name item
+  pub item_from : (number : ℕ) (name : List ℕ) (item : ℕ) → IsModule modules number → meaning_of (named_at modules number) name ≡ Some (part.Item item) → HasItem modules number name item
   item_from number name item (m, h) named =
-      let (x, at_place, is) = item_in m name item (ap (λ ns. part_named ns name) (sym (named_at_module modules number m h)) ∙ named) in
+      let (x, at_place, is) = item_in m name item (ap (λ ns. meaning_of ns name) (sym (named_at_module modules number m h)) ∙ named) in
       record { owner = m; found = x; owner_is = h; found_is = at_place; name_is = is }
 
   -- aliases
 
   pub alias_found : (number : ℕ) (name : List ℕ) (target : List (List ℕ)) → HasAlias modules number name target
-      → (alias : ℕ) × (module_at modules (path_at modules number ++ name ∷ []) ≡ None) × (part_named (named_at modules number) name ≡ Some (part.Alias alias)) × (target_at modules number alias ≡ target)
+      → (alias : ℕ) × (module_at modules (path_at modules number ++ name ∷ []) ≡ None) × (meaning_of (named_at modules number) name ≡ Some (part.Alias alias)) × (target_at modules number alias ≡ target)
   alias_found number name target has =
-      let named : part_named (named_at modules number) name ≡ Some (part.Alias has.alias) =
-      (ap (λ ns. part_named ns name) (named_at_module modules number has.owner has.owner_is) ∙ ap (part_named (named_in has.owner)) (sym has.name_is)
-      ∙ alias_stands has.owner (take number modules) (all_at IsSoundModule [] modules number has.owner sound has.owner_is) has.alias has.found has.found_is)
+      let named : meaning_of (named_at modules number) name ≡ Some (part.Alias has.alias) =
+      (ap (λ ns. meaning_of ns name) (named_at_module modules number has.owner has.owner_is) ∙ ap (meaning_of (named_in has.owner)) (sym has.name_is)
+      ∙ alias_stands has.owner (take number modules) (all_at FitsModule [] modules number has.owner sound has.owner_is) has.alias has.found has.found_is)
       in
       (has.alias, no_submodule number name (part.Alias has.alias) (has.owner, has.owner_is) named, named, target_at_alias modules number has.alias has.owner has.found has.owner_is has.found_is ∙ has.target_is)
 
-  pub alias_from : (number : ℕ) (name : List ℕ) (alias : ℕ) → IsModule modules number → part_named (named_at modules number) name ≡ Some (part.Alias alias) → HasAlias modules number name (target_at modules number alias)
+  pub alias_from : (number : ℕ) (name : List ℕ) (alias : ℕ) → IsModule modules number → meaning_of (named_at modules number) name ≡ Some (part.Alias alias) → HasAlias modules number name (target_at modules number alias)
   alias_from number name alias (m, h) named =
-      let (x, at_place, is) = alias_in m name alias (ap (λ ns. part_named ns name) (sym (named_at_module modules number m h)) ∙ named) in
+      let (x, at_place, is) = alias_in m name alias (ap (λ ns. meaning_of ns name) (sym (named_at_module modules number m h)) ∙ named) in
       record { owner = m; alias = alias; found = x; owner_is = h; found_is = at_place; name_is = is; target_is = sym (target_at_alias modules number alias m x h at_place) }

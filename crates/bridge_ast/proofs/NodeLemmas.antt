@@ -2,14 +2,14 @@
 use Rattle.std.proofs.Common.{◌≡◌, ℕ, ◌+◌, ◌<◌, List, [], ◌∷◌, ◌++◌, length, take, get_or, sym, subst, Option}
 use Rattle.std.specs.BTreeMap.{BTreeMap}
 use Rattle.bridge_decl.specs.declared.lifetimes.LifetimeNode.{LifetimeNode}
-use Rattle.bridge_ast.specs.declared.environment.fault.EnvFault.{EnvFault}
-use Rattle.bridge_ast.specs.declared.environment.fault.EnvFaultKind.TheVariants.{DuplicateLifetime}
-use Rattle.bridge_ast.specs.declared.environment.fault.EnvPart.{EnvPart}
-use Rattle.bridge_ast.specs.declared.environment.fault.EnvPart.TheVariants as part
-use Rattle.bridge_ast.specs.declared.environment.fault.EnvPlace.{EnvPlace}
+use Rattle.bridge_ast.specs.declared.fault.EnvFault.{EnvFault}
+use Rattle.bridge_ast.specs.declared.fault.EnvFaultKind.TheVariants.{DuplicateLifetime}
+use Rattle.bridge_ast.specs.declared.fault.EnvPart.{EnvPart}
+use Rattle.bridge_ast.specs.declared.fault.EnvPart.TheVariants as part
+use Rattle.bridge_ast.specs.declared.fault.EnvPlace.{EnvPlace}
 use Rattle.bridge_ast.specs.Each.{each}
 use Rattle.bridge_ast.specs.EnvFaults.{IsFirst, place, repeats_name, bound_faults, node_faults, lifetime_faults, nodes_named}
-use Rattle.bridge_ast.specs.Index.{Indexes}
+use Rattle.bridge_decl.specs.NameIndex.{HasMeanings}
 use Rattle.bridge_ast.proofs.EachLemmas.{counted_kept, counted_stopped, numbered_more}
 
 -- the faults of a node of a number
@@ -39,8 +39,8 @@ module _ (number item : ℕ) (method : Option ℕ) (nodes : List LifetimeNode) (
 
   pub nodes_named_more : (index : BTreeMap (List ℕ) EnvPart) → i < length nodes → x ≡ get_or nodes i x
       → here ≡ place number (part.Node item method i)
-      → Indexes index (nodes_named item method (take i nodes) ++ (x.name, here.part) ∷ [])
-      → Indexes index (nodes_named item method (take (i + 1) nodes))
+      → HasMeanings index (nodes_named item method (take i nodes) ++ (x.name, here.part) ∷ [])
+      → HasMeanings index (nodes_named item method (take (i + 1) nodes))
   nodes_named_more index within is stands indexed =
-      subst (Indexes index) (sym (numbered_more (λ n node. (node.name, part.Node item method n)) nodes i x within is))
-      (subst (λ (p : EnvPlace). Indexes index (nodes_named item method (take i nodes) ++ (x.name, p.part) ∷ [])) stands indexed)
+      subst (HasMeanings index) (sym (numbered_more (λ n node. (node.name, part.Node item method n)) nodes i x within is))
+      (subst (λ (p : EnvPlace). HasMeanings index (nodes_named item method (take i nodes) ++ (x.name, p.part) ∷ [])) stands indexed)

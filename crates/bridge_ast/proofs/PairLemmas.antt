@@ -8,7 +8,7 @@ use Rattle.std.specs.BTreeSet.{BTreeSet, Updates, contains}
 use Rattle.std.proofs.lemmas.Cmp.{tied_itself, nat_cmp_total}
 use Rattle.std.proofs.lemmas.Map.Lookups.{exact_pairs, exact_unsigned}
 use Rattle.std.proofs.lemmas.Map.Views.{tells_apart}
-use Rattle.bridge_ast.specs.Pairs.{HasPair, pair_cmp}
+use Rattle.bridge_ast.specs.inside.Pairs.{HasPair, pair_cmp}
 
 -- what is there after an addition
 added : (is_it was now : Bool) → now ≡ cond is_it true was → IsTrue now ↔ (IsTrue was ⊎ IsTrue is_it)

@@ -7,7 +7,7 @@ use Rattle.std.proofs.lemmas.Option.{slice_get-map, get_or_from_slice_get}
 use Rattle.std.proofs.lemmas.Slice.Eq.{bytes_eq-Decides, slice_eq-Decides}
 use Rattle.bridge_decl.specs.declared.modules.Module.{Module}
 use Rattle.bridge_ast.specs.EnvFaults.{path_eq, module_at, parent_and_last, named_at, named_in}
-use Rattle.bridge_ast.specs.Scopes.{ArePaths, IsUnder, IsParent}
+use Rattle.bridge_ast.specs.inside.Scopes.{ArePaths, IsUnder, IsParent}
 
 pub same_path : (a b : List (List ℕ)) → path_eq a b ≡ true → a ≡ b
 same_path a b h = (slice_eq-Decides bytes_eq-Decides a b (path_eq a b) refl).0 h

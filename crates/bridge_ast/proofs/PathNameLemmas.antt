@@ -3,24 +3,25 @@ use Rattle.std.proofs.Common.{◌≡◌, ℕ, zero, suc, ◌+◌, Bool, true, fa
 use Rattle.std.specs.Prelude.{option_and_then, ◌||◌}
 use Rattle.std.specs.Str.{bytes_eq}
 use Rattle.bridge_decl.specs.declared.modules.Module.{Module}
-use Rattle.bridge_ast.specs.declared.environment.fault.EnvPart.{EnvPart}
-use Rattle.bridge_ast.specs.declared.environment.fault.EnvPart.TheVariants as part
-use Rattle.bridge_ast.specs.declared.environment.walk.Head.{Head}
-use Rattle.bridge_ast.specs.declared.environment.walk.Head.TheVariants as head
-use Rattle.bridge_ast.specs.declared.environment.walk.ItemPlace.{ItemPlace}
-use Rattle.bridge_ast.specs.declared.environment.walk.Next.{Next}
-use Rattle.bridge_ast.specs.declared.environment.walk.Next.TheVariants as next
+use Rattle.bridge_ast.specs.declared.fault.EnvPart.{EnvPart}
+use Rattle.bridge_ast.specs.declared.fault.EnvPart.TheVariants as part
+use Rattle.bridge_ast.specs.declared.trail.Head.{Head}
+use Rattle.bridge_ast.specs.declared.trail.Head.TheVariants as head
+use Rattle.bridge_ast.specs.declared.place.ItemPlace.{ItemPlace}
+use Rattle.bridge_ast.specs.declared.trail.Next.{Next}
+use Rattle.bridge_ast.specs.declared.trail.Next.TheVariants as next
+use Rattle.bridge_decl.specs.NameIndex.{meaning_of}
 use Rattle.bridge_ast.specs.AliasCount.{alias_count}
-use Rattle.bridge_ast.specs.EnvFaults.{module_at, named_at, part_named, parent_and_last}
+use Rattle.bridge_ast.specs.EnvFaults.{module_at, named_at, parent_and_last}
 use Rattle.bridge_ast.specs.Paths.{PathNames, NamesItem, in_root, in_itself, in_parent, in_submodule, by_alias, by_item, is_reserved}
-use Rattle.bridge_ast.specs.Resolution.{path_at, target_at, by_name, to_part, to_submodule, to_module, to_parent, next_of, item_last, named_item, again_within}
-use Rattle.bridge_ast.specs.Scopes.{ArePaths}
-use Rattle.bridge_ast.specs.Sound.{AreSound}
-use Rattle.bridge_ast.specs.Walks.{leads_within, IsModule}
+use Rattle.bridge_ast.specs.inside.Resolution.{path_at, target_at, by_name, to_part, to_submodule, to_module, to_parent, next_of, item_last, named_item, again_within}
+use Rattle.bridge_ast.specs.inside.Scopes.{ArePaths}
+use Rattle.bridge_ast.specs.inside.Fitting.{FitInOrder}
+use Rattle.bridge_ast.specs.inside.Trails.{leads_within, IsModule}
 use Rattle.bridge_ast.proofs.AdvanceLemmas.{led, leads_by}
-use Rattle.bridge_ast.proofs.IndexLemmas.{same_text}
+use Rattle.bridge_decl.proofs.NameIndexLemmas.{same_text}
 use Rattle.bridge_ast.proofs.NamedLemmas.{submodule_found, submodule_from, parent_found, parent_from, item_found, item_from, alias_found, alias_from}
-use Rattle.bridge_ast.proofs.WalkLemmas.{begun, next_inside}
+use Rattle.bridge_ast.proofs.TrailLemmas.{begun, next_inside}
 
 -- ---- one segment
 
@@ -55,7 +56,7 @@ parent_of_goes modules (Some (parent, last)) = found (module_at modules parent) 
     found None e = inl (ap to_module e)
     found (Some above) e = inr (above, e, ap to_module e)
 
-module _ (modules : List Module) (are : ArePaths modules) (sound : AreSound modules) (place : ItemPlace) where
+module _ (modules : List Module) (are : ArePaths modules) (sound : FitInOrder modules) (place : ItemPlace) where
   -- ---- what is named is led to
 
   leads_as_named : (steps number : ℕ) (at : Head) (path : List (List ℕ)) → PathNames modules place steps number at path → leads_within steps modules number at path ≡ Some place
@@ -67,19 +68,19 @@ module _ (modules : List Module) (are : ArePaths modules) (sound : AreSound modu
       ∙ leads_as_named steps above head.Supers rest names
   leads_as_named steps number at path (in_submodule _ _ below _ name rest may is names) =
       leads_by (again_within steps modules) modules number at name rest (next.Goes below head.Names)
-      (name_at modules number at name may ∙ ap (λ o. to_submodule o (part_named (named_at modules number) name)) (submodule_found modules are sound number name below is))
+      (name_at modules number at name may ∙ ap (λ o. to_submodule o (meaning_of (named_at modules number) name)) (submodule_found modules are sound number name below is))
       ∙ leads_as_named steps below head.Names rest names
   leads_as_named steps number at path (by_alias fewer _ _ name target rest may has names) =
       let (alias, none, is, its) = alias_found modules are sound number name target has in
       leads_by (again_within (suc fewer) modules) modules number at name rest (next.Alias alias)
-      (name_at modules number at name may ∙ ap (λ o. to_submodule o (part_named (named_at modules number) name)) none ∙ ap to_part is)
+      (name_at modules number at name may ∙ ap (λ o. to_submodule o (meaning_of (named_at modules number) name)) none ∙ ap to_part is)
       ∙ begun fewer modules number (target_at modules number alias ++ rest)
       ∙ ap (λ t. leads_within fewer modules number head.Start (t ++ rest)) its
       ∙ leads_as_named fewer number head.Start (target ++ rest) names
   leads_as_named steps number at path (by_item _ _ item _ name may has here) =
       let (none, is) = item_found modules are sound number name item has in
       leads_by (again_within steps modules) modules number at name [] (next.Item item)
-      (name_at modules number at name may ∙ ap (λ o. to_submodule o (part_named (named_at modules number) name)) none ∙ ap to_part is)
+      (name_at modules number at name may ∙ ap (λ o. to_submodule o (meaning_of (named_at modules number) name)) none ∙ ap to_part is)
       ∙ ap Some (sym here)
 
   -- ---- what is led to is named
@@ -96,12 +97,12 @@ module _ (modules : List Module) (are : ArePaths modules) (sound : AreSound modu
     pick at segment true x y p q = p refl
     pick at segment false x y p q = q refl
 
-    item_by : (at : Head) (name : List ℕ) (item : ℕ) (after : List (List ℕ)) → is_reserved at name ≡ false → part_named (named_at modules number) name ≡ Some (part.Item item)
+    item_by : (at : Head) (name : List ℕ) (item : ℕ) (after : List (List ℕ)) → is_reserved at name ≡ false → meaning_of (named_at modules number) name ≡ Some (part.Item item)
         → item_last number item after ≡ Some place → PathNames modules place steps number at (name ∷ after)
     item_by at name item [] may is h = by_item steps number item at name may (item_from modules are sound number name item is_module is) cc
     item_by at name item (segment ∷ after) may is h = absurd cc
 
-    part_by : (at : Head) (name : List ℕ) → is_reserved at name ≡ false → (named : Option EnvPart) → part_named (named_at modules number) name ≡ named → NamesBy at name (to_part named)
+    part_by : (at : Head) (name : List ℕ) → is_reserved at name ≡ false → (named : Option EnvPart) → meaning_of (named_at modules number) name ≡ named → NamesBy at name (to_part named)
     part_by at name may (Some (part.Item item)) is h = item_by at name item rest may is h
     part_by at name may (Some (part.Alias alias)) is h =
         let begins = anew number (target_at modules number alias ++ rest) is_module h in
@@ -111,11 +112,11 @@ module _ (modules : List Module) (are : ArePaths modules) (sound : AreSound modu
     part_by at name may (Some (part.Node i method n)) is h = absurd cc
     part_by at name may None is h = absurd cc
 
-    submodule_by : (at : Head) (name : List ℕ) → is_reserved at name ≡ false → (found : Option ℕ) → module_at modules (path_at modules number ++ name ∷ []) ≡ found → NamesBy at name (to_submodule found (part_named (named_at modules number) name))
+    submodule_by : (at : Head) (name : List ℕ) → is_reserved at name ≡ false → (found : Option ℕ) → module_at modules (path_at modules number ++ name ∷ []) ≡ found → NamesBy at name (to_submodule found (meaning_of (named_at modules number) name))
     submodule_by at name may (Some below) is h =
         let sub = submodule_from modules are sound number name below is_module is in
         in_submodule steps number below at name rest may sub (later below head.Names (sub.child, sub.inner_is) h)
-    submodule_by at name may None is h = part_by at name may (part_named (named_at modules number) name) refl h
+    submodule_by at name may None is h = part_by at name may (meaning_of (named_at modules number) name) refl h
 
     name_by : (at : Head) (name : List ℕ) → is_reserved at name ≡ false → NamesBy at name (by_name modules number name)
     name_by at name may = submodule_by at name may (module_at modules (path_at modules number ++ name ∷ [])) refl
@@ -162,7 +163,7 @@ module _ (modules : List Module) (are : ArePaths modules) (sound : AreSound modu
   )
 
 -- a path names one item at most
-pub named_once : (modules : List Module) → ArePaths modules → AreSound modules → (number : ℕ) (path : List (List ℕ)) (one other : ItemPlace)
+pub named_once : (modules : List Module) → ArePaths modules → FitInOrder modules → (number : ℕ) (path : List (List ℕ)) (one other : ItemPlace)
     → NamesItem modules number path one → NamesItem modules number path other → one ≡ other
 named_once modules are sound number path one other names also =
     let steps = alias_count modules + length path in
@@ -170,3 +171,14 @@ named_once modules are sound number path one other names also =
     (sym (leads_as_named modules are sound one steps number head.Start path names) ∙ leads_as_named modules are sound other steps number head.Start path also)
     in
     cc
+
+-- and it is decided whether it names any
+pub named_or_not : (modules : List Module) → ArePaths modules → FitInOrder modules → (number : ℕ) (path : List (List ℕ))
+    → IsModule modules number
+    → ((place : ItemPlace) × NamesItem modules number path place) ⊎ ((place : ItemPlace) → ¬ NamesItem modules number path place)
+named_or_not modules are sound number path is_module = by (named_item modules number path) refl
+  where
+    by : (found : Option ItemPlace) → named_item modules number path ≡ found
+        → ((place : ItemPlace) × NamesItem modules number path place) ⊎ ((place : ItemPlace) → ¬ NamesItem modules number path place)
+    by (Some place) e = inl (place, (names_where_led modules are sound place number path is_module).0 e)
+    by None e = inr (λ place names. let there = (names_where_led modules are sound place number path is_module).1 names in absurd cc)

@@ -11,20 +11,20 @@ use Rattle.std.proofs.lemmas.Map.Text.{is_eq-slice_cmp}
 use Rattle.std.proofs.lemmas.List.{length-map, take_more, get_or_past, length-set, get_or-set_same, get_or-set_other}
 use Rattle.std.proofs.lemmas.Option.{slice_get_within, slice_get-get_or, get_or_from_slice_get}
 use Rattle.bridge_decl.specs.declared.modules.Module.{Module}
-use Rattle.bridge_ast.specs.declared.environment.fault.EnvPart.{EnvPart}
-use Rattle.bridge_ast.specs.declared.environment.scopes.Scope.{Scope}
-use Rattle.bridge_ast.specs.declared.environment.fault.EnvFault.{EnvFault}
-use Rattle.bridge_ast.specs.declared.environment.fault.EnvFaultKind.TheVariants.{DuplicateModule}
-use Rattle.bridge_ast.specs.declared.environment.fault.EnvPart.TheVariants as part
-use Rattle.bridge_ast.specs.EnvFaults.{IsFirst, module_at, named_at, named_in, part_named, parent_and_last, parent_faults}
+use Rattle.bridge_ast.specs.declared.fault.EnvPart.{EnvPart}
+use Rattle.bridge_ast.specs.declared.scopes.Scope.{Scope}
+use Rattle.bridge_ast.specs.declared.fault.EnvFault.{EnvFault}
+use Rattle.bridge_ast.specs.declared.fault.EnvFaultKind.TheVariants.{DuplicateModule}
+use Rattle.bridge_ast.specs.declared.fault.EnvPart.TheVariants as part
+use Rattle.bridge_ast.specs.EnvFaults.{IsFirst, module_at, named_at, named_in, parent_and_last, parent_faults}
 use Rattle.bridge_ast.specs.EnvFaults.{submodule_faults, path_faults, repeats, place, path_eq}
-use Rattle.bridge_ast.specs.Index.{Indexes}
-use Rattle.bridge_ast.specs.Scopes.{ArePaths, IsUnder, IsParent, IsScope, Knows, AddsSubmodule, AddsUnder, Enters}
+use Rattle.bridge_decl.specs.NameIndex.{HasMeanings, meaning_of}
+use Rattle.bridge_ast.specs.inside.Scopes.{ArePaths, IsUnder, IsParent, IsScope, Knows, AddsSubmodule, AddsUnder, Enters}
 use Rattle.bridge_ast.proofs.PathLemmas.{module_at_some, module_at-push, module_at-old, named_at_module, absent_longer}
 use Rattle.bridge_ast.proofs.PathLemmas.{parent_and_last-snoc, snoc_same, slice_get_push, parent_more, paths_more, none_under}
 use Rattle.bridge_ast.proofs.PathLemmas.{path_itself, other_path}
 use Rattle.bridge_ast.proofs.EachLemmas.{first_after, none_after}
-use Rattle.bridge_ast.proofs.IndexLemmas.{same_text, text_itself}
+use Rattle.bridge_decl.proofs.NameIndexLemmas.{same_text, text_itself}
 use Rattle.std.proofs.lemmas.Bool.{eqb-true}
 use Rattle.std.proofs.lemmas.Bool.Decides.{eqb_tells}
 use Rattle.std.specs.BTreeMap.{is_at}
@@ -59,17 +59,17 @@ found_submodule scopes modules n m scope name r known stands at_place is =
 
 pub found_part : (scopes : List Scope) (modules : List Module) (n : ℕ) (scope : Scope) (name : List ℕ) (r : Option EnvPart)
     → Knows scopes modules → Some scope ≡ slice_get scopes n
-    → r ≡ get (slice_cmp nat_cmp) scope.names name → r ≡ part_named (named_at modules n) name
+    → r ≡ get (slice_cmp nat_cmp) scope.names name → r ≡ meaning_of (named_at modules n) name
 found_part scopes modules n scope name r known at_place is =
     let m = module_of scopes modules n scope known (sym at_place) in
-    is ∙ (known.scope_of n m.0 scope m.1 (sym at_place)).names.finds name ∙ ap (λ names. part_named names name)
+    is ∙ (known.scope_of n m.0 scope m.1 (sym at_place)).names.finds name ∙ ap (λ names. meaning_of names name)
     (sym (named_at_module modules n m.0 m.1))
 
 pub no_part : (scopes : List Scope) (modules : List Module) (n : ℕ) (name : List ℕ) → Knows scopes modules
-    → None ≡ slice_get scopes n → None ≡ part_named (named_at modules n) name
+    → None ≡ slice_get scopes n → None ≡ meaning_of (named_at modules n) name
 no_part scopes modules n name known past =
     let le = none_past scopes n (sym past) in
-    ap (λ names. part_named names name) (sym (get_or_past (map named_in modules) n []
+    ap (λ names. meaning_of names name) (sym (get_or_past (map named_in modules) n []
     (omega (arith, length-map modules named_in, known.count))))
 
 pub root_stands : (scopes : List Scope) (modules : List Module) → Knows scopes modules → nat_eq (length scopes) 0 ≡ false
@@ -90,7 +90,7 @@ module _ (modules : List Module) (are : ArePaths modules) (path : List (List ℕ
   path_so_far : m.path ++ segment ∷ [] ≡ take (i + 1) path
   path_so_far = ap (λ p. p ++ segment ∷ []) come ∙ ap (λ s. take i path ++ s ∷ []) is ∙ sym (take_more path i segment within)
 
-  -- a walk from the root along a path, one segment further
+  -- a trail from the root along a path, one segment further
   pub walked : (next : ℕ) → Some next ≡ module_at modules (m.path ++ segment ∷ []) → (m' : Module)
       × (slice_get modules next ≡ Some m') × (m'.path ≡ take (i + 1) path)
   walked next found =
@@ -191,7 +191,7 @@ scope_added : (modules : List Module) (m x : Module) (was scope : Scope) (last :
     → m.path ≡ x.path ++ last ∷ [] → AddsSubmodule was scope last (length modules) → IsScope modules x was
     → IsScope (modules ++ m ∷ []) x scope
 scope_added modules m x was scope last absent ends adds is_scope = record {
-  names = subst (λ names. Indexes names (named_in x)) (sym adds.names) is_scope.names;
+  names = subst (λ names. HasMeanings names (named_in x)) (sym adds.names) is_scope.names;
   submodules = λ name.
       adds.submodules name
       ∙ ap (λ o. cond (bytes_eq last name) (Some (length modules)) o) (is_scope.submodules name)
@@ -242,7 +242,7 @@ module _ (old new : List Scope) (modules : List Module) (m : Module) (known : Kn
 
   pub knows_more : (parent : Option ℕ) (scope : Scope) → IsParent modules parent m.path
       → Enters old new parent m.path (length modules)
-      → Indexes scope.names (named_in m) → scope.submodules.entries ≡ [] → scope.parent ≡ parent
+      → HasMeanings scope.names (named_in m) → scope.submodules.entries ≡ [] → scope.parent ≡ parent
       → Knows (new ++ scope ∷ []) (modules ++ m ∷ [])
   knows_more parent scope is_parent enters names empty parent_is = record {
     count = omega (arith, count_kept parent is_parent enters, length-append new (scope ∷ []), length-append modules (m ∷ []));

@@ -10,12 +10,12 @@ use Rattle.std.specs.Ordering.{nat_cmp, is_eq}
 use Rattle.std.proofs.lemmas.Map.Lookups.{exact_pairs, exact_unsigned}
 use Rattle.std.proofs.lemmas.Map.Views.{tells_apart}
 use Rattle.bridge_decl.specs.declared.modules.Module.{Module}
-use Rattle.bridge_ast.specs.declared.environment.alias_ends.Frame.{Frame}
-use Rattle.bridge_ast.specs.declared.environment.walk.Walk.{Walk}
-use Rattle.bridge_ast.specs.AliasEnds.{IsAlias, IsEnd, LeadsNowhere, KnowsEnds, alias_leads}
-use Rattle.bridge_ast.specs.Pairs.{pair_cmp}
-use Rattle.bridge_ast.specs.Searches.{IsFrame, WaitsFor, IsOn, IsStack, Has, IsSearch, IsWaiting}
-use Rattle.bridge_ast.specs.Walks.{IsInside}
+use Rattle.bridge_ast.specs.declared.alias_ends.Frame.{Frame}
+use Rattle.bridge_ast.specs.declared.trail.Trail.{Trail}
+use Rattle.bridge_ast.specs.inside.AliasEnds.{IsAlias, IsEnd, LeadsNowhere, KnowsEnds, alias_leads}
+use Rattle.bridge_ast.specs.inside.Pairs.{pair_cmp}
+use Rattle.bridge_ast.specs.inside.Searches.{IsFrame, WaitsFor, IsOn, IsStack, Has, IsSearch, IsWaiting}
+use Rattle.bridge_ast.specs.inside.Trails.{IsInside}
 use Rattle.bridge_ast.proofs.PairLemmas.{pair_itself}
 
 -- ---- aliases that wait for one another
@@ -53,7 +53,7 @@ waits_more modules A B alias into waits = λ steps rest few.
       })
     ]
 
--- ---- the walks on their way
+-- ---- the trails on their way
 
 on_last : (frames : List Frame) (last : Frame) → IsOn (frames ++ last ∷ []) last.alias
 on_last [] last = inl refl
@@ -124,21 +124,21 @@ apart one other h same =
     let e : is_eq (pair_cmp one other) ≡ true = ap (λ (p : ℕ × ℕ). is_eq (pair_cmp one p)) (sym same)
     ∙ ap is_eq (pair_itself one) in cc
 
-found_new : (b : Bool) (before now : Option Walk) (end other : Walk) → now ≡ cond b (Some end) before → now ≡ Some other
+found_new : (b : Bool) (before now : Option Trail) (end other : Trail) → now ≡ cond b (Some end) before → now ≡ Some other
     → ((b ≡ true) × (end ≡ other)) ⊎ (before ≡ Some other)
 found_new true before now end other is found = inl (refl, cc)
 found_new false before now end other is found = inr (sym is ∙ found)
 
-none_new : (b : Bool) (before now : Option Walk) (end : Walk) → now ≡ cond b (Some end) before → now ≡ None → (b ≡ false)
+none_new : (b : Bool) (before now : Option Trail) (end : Trail) → now ≡ cond b (Some end) before → now ≡ None → (b ≡ false)
     × (before ≡ None)
 none_new true before now end is none = absurd cc
 none_new false before now end is none = (refl, sym is ∙ none)
 
--- the walk has come to the end of the target
-pub search_ended : (modules : List Module) (old new : BTreeMap (ℕ × ℕ) Walk) (unbegun : BTreeSet (ℕ × ℕ)) (frames : List Frame)
-    (last : Frame) (end : Walk) → IsSearch modules old unbegun (frames ++ last ∷ []) → IsEnd modules last.alias end
+-- the trail has come to the end of the target
+pub search_ended : (modules : List Module) (old new : BTreeMap (ℕ × ℕ) Trail) (unbegun : BTreeSet (ℕ × ℕ)) (frames : List Frame)
+    (last : Frame) (end : Trail) → IsSearch modules old unbegun (frames ++ last ∷ []) → IsEnd modules last.alias end
     → IsInside modules end.stand
-    → ((alias : ℕ × ℕ) → get pair_cmp new alias ≡ cond {A = Option Walk} (is_eq (pair_cmp last.alias alias)) (Some end)
+    → ((alias : ℕ × ℕ) → get pair_cmp new alias ≡ cond {A = Option Trail} (is_eq (pair_cmp last.alias alias)) (Some end)
     (get pair_cmp old alias)) → IsSearch modules new unbegun frames
 search_ended modules old new unbegun frames last end search is_end inside updates = record {
   known = record {
@@ -152,7 +152,7 @@ search_ended modules old new unbegun frames last end search is_end inside update
     inside = λ alias other found.
         elim (found_new (is_eq (pair_cmp last.alias alias)) (get pair_cmp old alias) (get pair_cmp new alias) end other
         (updates alias) found) [
-          | inl here ↦ subst (λ (w : Walk). IsInside modules w.stand) here.1 inside
+          | inl here ↦ subst (λ (w : Trail). IsInside modules w.stand) here.1 inside
           | inr before ↦ search.known.inside alias other before
         ];
   };
@@ -172,8 +172,8 @@ search_ended modules old new unbegun frames last end search is_end inside update
       ];
 }
 
--- all walks on their way lead nowhere
-pub search_cleared : (modules : List Module) (ends : BTreeMap (ℕ × ℕ) Walk) (unbegun : BTreeSet (ℕ × ℕ)) (frames : List Frame)
+-- all trails on their way lead nowhere
+pub search_cleared : (modules : List Module) (ends : BTreeMap (ℕ × ℕ) Trail) (unbegun : BTreeSet (ℕ × ℕ)) (frames : List Frame)
     (last : Frame) → IsSearch modules ends unbegun (frames ++ last ∷ []) → WaitsFor modules
     (IsOn (frames ++ last ∷ [])) last.alias → IsSearch modules ends unbegun []
 search_cleared modules ends unbegun frames last search waits = record {
@@ -189,14 +189,14 @@ search_cleared modules ends unbegun frames last search waits = record {
       ];
 }
 
-pub search_stopped : (modules : List Module) (ends : BTreeMap (ℕ × ℕ) Walk) (unbegun : BTreeSet (ℕ × ℕ)) (frames : List Frame)
+pub search_stopped : (modules : List Module) (ends : BTreeMap (ℕ × ℕ) Trail) (unbegun : BTreeSet (ℕ × ℕ)) (frames : List Frame)
     (last : Frame) → IsSearch modules ends unbegun (frames ++ last ∷ []) → LeadsNowhere modules last.alias
     → IsSearch modules ends unbegun []
 search_stopped modules ends unbegun frames last search nowhere =
     search_cleared modules ends unbegun frames last search (λ steps rest few. inl (nowhere steps rest few))
 
--- the walk waits for an alias that is begun
-pub search_circled : (modules : List Module) (ends : BTreeMap (ℕ × ℕ) Walk) (unbegun : BTreeSet (ℕ × ℕ)) (frames : List Frame)
+-- the trail waits for an alias that is begun
+pub search_circled : (modules : List Module) (ends : BTreeMap (ℕ × ℕ) Trail) (unbegun : BTreeSet (ℕ × ℕ)) (frames : List Frame)
     (last : Frame) (next : ℕ × ℕ) → IsSearch modules ends unbegun (frames ++ last ∷ []) → IsWaiting modules ends last.alias next
     → (Has unbegun next → ⊥) → IsSearch modules ends unbegun []
 search_circled modules ends unbegun frames last next search waiting is_begun =
@@ -229,8 +229,8 @@ stays_in : (b was now : Bool) → now ≡ cond b false was → was ≡ true → 
 stays_in true was now is h = inl refl
 stays_in false was now is h = inr (is ∙ h)
 
--- a walk is begun
-search_more : (modules : List Module) (ends : BTreeMap (ℕ × ℕ) Walk) (old now : BTreeSet (ℕ × ℕ)) (stack : List Frame)
+-- a trail is begun
+search_more : (modules : List Module) (ends : BTreeMap (ℕ × ℕ) Trail) (old now : BTreeSet (ℕ × ℕ)) (stack : List Frame)
     (new : Frame) → IsSearch modules ends old stack → IsStack modules (stack ++ new ∷ [])
     → ((alias : ℕ × ℕ) → contains pair_cmp now alias ≡ cond {A = Bool} (is_eq (pair_cmp new.alias alias)) false
     (contains pair_cmp old alias)) → IsSearch modules ends now (stack ++ new ∷ [])
@@ -253,7 +253,7 @@ search_more modules ends old now stack new search stacked updates = record {
       ];
 }
 
-pub search_waits : (modules : List Module) (ends : BTreeMap (ℕ × ℕ) Walk) (old now : BTreeSet (ℕ × ℕ)) (frames : List Frame)
+pub search_waits : (modules : List Module) (ends : BTreeMap (ℕ × ℕ) Trail) (old now : BTreeSet (ℕ × ℕ)) (frames : List Frame)
     (last new : Frame) (next : ℕ × ℕ) → IsSearch modules ends old (frames ++ last ∷ []) → IsWaiting modules ends last.alias next
     → new.alias ≡ next → IsFrame modules new
     → ((alias : ℕ × ℕ) → contains pair_cmp now alias ≡ cond {A = Bool} (is_eq (pair_cmp next alias)) false
@@ -265,7 +265,7 @@ search_waits modules ends old now frames last new next search waiting same is_fr
     (λ alias. updates alias ∙ ap (λ (a : ℕ × ℕ). cond {A = Bool} (is_eq (pair_cmp a alias)) false (contains pair_cmp old alias))
     (sym same))
 
-pub search_begun : (modules : List Module) (ends : BTreeMap (ℕ × ℕ) Walk) (old now : BTreeSet (ℕ × ℕ)) (new : Frame)
+pub search_begun : (modules : List Module) (ends : BTreeMap (ℕ × ℕ) Trail) (old now : BTreeSet (ℕ × ℕ)) (new : Frame)
     (next : ℕ × ℕ) → IsSearch modules ends old [] → new.alias ≡ next → IsFrame modules new
     → ((alias : ℕ × ℕ) → contains pair_cmp now alias ≡ cond {A = Bool} (is_eq (pair_cmp next alias)) false
     (contains pair_cmp old alias)) → IsSearch modules ends now (new ∷ [])
@@ -273,8 +273,8 @@ search_begun modules ends old now new next search same is_frame updates =
     search_more modules ends old now [] new search is_frame (λ alias. updates alias
     ∙ ap (λ (a : ℕ × ℕ). cond {A = Bool} (is_eq (pair_cmp a alias)) false (contains pair_cmp old alias)) (sym same))
 
--- the walk has come further, before it waits
-pub search_changed : (modules : List Module) (ends : BTreeMap (ℕ × ℕ) Walk) (unbegun : BTreeSet (ℕ × ℕ)) (frames : List Frame)
+-- the trail has come further, before it waits
+pub search_changed : (modules : List Module) (ends : BTreeMap (ℕ × ℕ) Trail) (unbegun : BTreeSet (ℕ × ℕ)) (frames : List Frame)
     (last new : Frame) → IsSearch modules ends unbegun (frames ++ last ∷ []) → new.alias ≡ last.alias → IsFrame modules new
     → IsSearch modules ends unbegun (frames ++ new ∷ [])
 search_changed modules ends unbegun frames last new search same is_frame = record {
@@ -295,7 +295,7 @@ search_changed modules ends unbegun frames last new search same is_frame = recor
 
 -- ---- its start and its end
 
-pub search_starts : (modules : List Module) (ends : BTreeMap (ℕ × ℕ) Walk) (unbegun : BTreeSet (ℕ × ℕ)) → ends.entries ≡ []
+pub search_starts : (modules : List Module) (ends : BTreeMap (ℕ × ℕ) Trail) (unbegun : BTreeSet (ℕ × ℕ)) → ends.entries ≡ []
     → ((alias : ℕ × ℕ) → Has unbegun alias → IsAlias modules alias) → ((alias : ℕ × ℕ) → IsAlias modules alias
     → Has unbegun alias) → IsSearch modules ends unbegun []
 search_starts modules ends unbegun empty are all = record {
@@ -308,10 +308,10 @@ search_starts modules ends unbegun empty are all = record {
   others = λ alias is_alias unknown. inl (all alias is_alias);
 }
   where
-    nothing : (alias : ℕ × ℕ) (end : Walk) → get pair_cmp ends alias ≡ Some end → ⊥
+    nothing : (alias : ℕ × ℕ) (end : Trail) → get pair_cmp ends alias ≡ Some end → ⊥
     nothing alias end found = let none : get pair_cmp ends alias ≡ None = ap (lookup (is_at (pair_cmp alias))) empty in cc
 
-pub search_done : (modules : List Module) (ends : BTreeMap (ℕ × ℕ) Walk) (unbegun : BTreeSet (ℕ × ℕ))
+pub search_done : (modules : List Module) (ends : BTreeMap (ℕ × ℕ) Trail) (unbegun : BTreeSet (ℕ × ℕ))
     → IsSearch modules ends unbegun [] → unbegun.keys ≡ [] → KnowsEnds ends modules
 search_done modules ends unbegun search empty = record {
   are = search.known;
@@ -334,7 +334,7 @@ on_false true P h none = absurd cc
 on_false false P h none = h
 
 -- a set that has the same aliases
-pub search_same : (modules : List Module) (ends : BTreeMap (ℕ × ℕ) Walk) (old now : BTreeSet (ℕ × ℕ)) (stack : List Frame)
+pub search_same : (modules : List Module) (ends : BTreeMap (ℕ × ℕ) Trail) (old now : BTreeSet (ℕ × ℕ)) (stack : List Frame)
     → now.keys ≡ old.keys → IsSearch modules ends old stack → IsSearch modules ends now stack
 search_same modules ends old now stack same search = record {
   known = search.known;
@@ -351,8 +351,8 @@ search_same modules ends old now stack same search = record {
     same_has : (alias : ℕ × ℕ) → contains pair_cmp now alias ≡ contains pair_cmp old alias
     same_has alias = ap (list_any (is_at (pair_cmp alias))) same
 
--- the walk waits for an alias that was taken out before
-pub search_circled_at : (modules : List Module) (ends : BTreeMap (ℕ × ℕ) Walk) (old now : BTreeSet (ℕ × ℕ))
+-- the trail waits for an alias that was taken out before
+pub search_circled_at : (modules : List Module) (ends : BTreeMap (ℕ × ℕ) Trail) (old now : BTreeSet (ℕ × ℕ))
     (frames after : List Frame) (last : Frame) (next : ℕ × ℕ) (was : Bool) → IsSearch modules ends old (frames ++ last ∷ [])
     → IsWaiting modules ends last.alias next
     → was ≡ contains pair_cmp old next → was ≡ false → OnFalse was (now.keys ≡ old.keys) → after ≡ []
@@ -363,7 +363,7 @@ search_circled_at modules ends old now frames after last next was search waiting
     (search_circled modules ends old frames last next search waiting (not_there (contains pair_cmp old next)
     (sym is ∙ none))))
 
-pub search_waits_at : (modules : List Module) (ends : BTreeMap (ℕ × ℕ) Walk) (old now : BTreeSet (ℕ × ℕ))
+pub search_waits_at : (modules : List Module) (ends : BTreeMap (ℕ × ℕ) Trail) (old now : BTreeSet (ℕ × ℕ))
     (frames middle after : List Frame) (last new : Frame) (next : ℕ × ℕ) → IsSearch modules ends old (frames ++ last ∷ [])
     → IsWaiting modules ends last.alias next → new.alias ≡ next → (IsAlias modules next → IsFrame modules new)
     → ((alias : ℕ × ℕ) → contains pair_cmp now alias ≡ cond {A = Bool} (is_eq (pair_cmp next alias)) false
@@ -373,7 +373,7 @@ search_waits_at modules ends old now frames middle after last new next search wa
     subst (IsSearch modules ends now) (sym (second ∙ ap (λ xs. xs ++ new ∷ []) first))
     (search_waits modules ends old now frames last new next search waiting same (is_frame waiting.is_alias) updates)
 
--- the last walk on its way
-pub last_frame : (modules : List Module) (ends : BTreeMap (ℕ × ℕ) Walk) (unbegun : BTreeSet (ℕ × ℕ)) (frames : List Frame)
+-- the last trail on its way
+pub last_frame : (modules : List Module) (ends : BTreeMap (ℕ × ℕ) Trail) (unbegun : BTreeSet (ℕ × ℕ)) (frames : List Frame)
     (last : Frame) → IsSearch modules ends unbegun (frames ++ last ∷ []) → IsFrame modules last
 last_frame modules ends unbegun frames last search = (stack_parts modules frames last search.stacked).1

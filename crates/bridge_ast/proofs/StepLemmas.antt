@@ -1,7 +1,7 @@
 -- Alias steps that are taken from a number of steps.
 use Rattle.std.proofs.Common.{◌≡◌, ℕ, zero, suc, ◌+◌, ◌<◌, ◌≤◌, Option, Some, None, refl, ap, ◌∙◌, arith}
 use Rattle.std.specs.Prelude.{option_and_then}
-use Rattle.bridge_ast.specs.Walks.{after_taking}
+use Rattle.bridge_ast.specs.inside.Trails.{after_taking}
 
 pub taking_too_many : (taken steps : ℕ) → steps < taken → after_taking taken steps ≡ None
 taking_too_many zero steps over = absurd (omega arith)

@@ -5,14 +5,15 @@ use Rattle.bridge_decl.specs.declared.modules.Module.{Module}
 use Rattle.bridge_decl.specs.declared.modules.Item.{Item}
 use Rattle.bridge_decl.specs.declared.modules.Item.TheVariants.{Struct, Opaque, Enum, Trait, Function}
 use Rattle.bridge_decl.specs.declared.traits.Trait.{Trait as TraitDeclaration}
-use Rattle.bridge_ast.specs.declared.environment.resolution.CustomType.{CustomType}
-use Rattle.bridge_ast.specs.declared.environment.resolution.TraitAt.{TraitAt}
-use Rattle.bridge_ast.specs.declared.environment.walk.ItemPlace.{ItemPlace}
-use Rattle.bridge_ast.specs.Resolution.{named_item}
-use Rattle.bridge_ast.specs.Scopes.{ArePaths}
-use Rattle.bridge_ast.specs.Sound.{AreSound}
-use Rattle.bridge_ast.specs.Types.{item_of, is_type, as_type, as_trait, NamesType, NamesTrait, named_type, named_trait, item_seen, type_seen, trait_seen}
-use Rattle.bridge_ast.specs.Walks.{IsModule}
+use Rattle.bridge_ast.specs.declared.resolution.CustomType.{CustomType}
+use Rattle.bridge_ast.specs.declared.resolution.TraitAt.{TraitAt}
+use Rattle.bridge_ast.specs.declared.place.ItemPlace.{ItemPlace}
+use Rattle.bridge_ast.specs.inside.Resolution.{named_item}
+use Rattle.bridge_ast.specs.inside.Scopes.{ArePaths}
+use Rattle.bridge_ast.specs.inside.Fitting.{FitInOrder}
+use Rattle.bridge_ast.specs.Types.{item_of, is_type, NamesType, NamesTrait, item_seen, type_seen, trait_seen}
+use Rattle.bridge_ast.specs.inside.Resolution.{as_type, as_trait, named_type, named_trait}
+use Rattle.bridge_ast.specs.inside.Trails.{IsModule}
 use Rattle.bridge_ast.proofs.NamedLemmas.{pair_parts}
 use Rattle.bridge_ast.proofs.PathNameLemmas.{names_where_led}
 
@@ -52,7 +53,7 @@ none_where : {X Y Z : Type 0} (f : X → Y × Z) (found : Option X) (P : Y → Z
 none_where f None P some = (λ h y z p. (let e : None ≡ Some (y, z) = (some y z).1 p in cc), λ h. refl)
 none_where f (Some x) P some = (λ h. absurd cc, λ h. absurd (h (f x).0 (f x).1 ((some (f x).0 (f x).1).0 refl)))
 
-module _ (modules : List Module) (are : ArePaths modules) (sound : AreSound modules) (number : ℕ) (path : List (List ℕ)) (is_module : IsModule modules number) where
+module _ (modules : List Module) (are : ArePaths modules) (sound : FitInOrder modules) (number : ℕ) (path : List (List ℕ)) (is_module : IsModule modules number) where
   type_named : (item : Item) (place : ItemPlace) → (named_type modules number path ≡ Some (item, place)) ↔ NamesType modules number path item place
   type_named item place = (
     λ h.

@@ -2,8 +2,8 @@
 use Rattle.std.specs.Prelude.{ℕ, List, [], map, slice_index_or, length, Bool, ◌||◌, nat_eq, nat_le, nat_lt}
 use Rattle.std.specs.List.{list_any, list_all}
 use Rattle.bridge_decl.specs.declared.lifetimes.LifetimeNode.{LifetimeNode}
-use Rattle.bridge_ast.specs.declared.environment.bounds.Side.{Side}
-use Rattle.bridge_ast.specs.declared.environment.bounds.Side.TheVariants.{Longer, Shorter}
+use Rattle.bridge_ast.specs.declared.bounds.Side.{Side}
+use Rattle.bridge_ast.specs.declared.bounds.Side.TheVariants.{Longer, Shorter}
 
 -- the other side
 abbrev pub opposite_of : Side → Side

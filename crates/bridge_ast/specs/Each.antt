@@ -11,5 +11,5 @@ abbrev pub each : {X Y : Type 0} → (List X → X → List Y) → List X → Li
 each f xs = each_after f [] xs
 
 -- each element with its number, counted from 0
-abbrev pub numbered : {X Y : Type 0} → (ℕ → X → Y) → List X → List Y
-numbered f xs = each (λ before x. f (length before) x ∷ []) xs
+abbrev pub each_numbered : {X Y : Type 0} → (ℕ → X → Y) → List X → List Y
+each_numbered f xs = each (λ before x. f (length before) x ∷ []) xs

@@ -8,18 +8,19 @@ use Rattle.bridge_decl.specs.declared.modules.Alias.{Alias}
 use Rattle.bridge_decl.specs.declared.modules.Item.{Item}
 use Rattle.bridge_decl.specs.declared.modules.Item.TheVariants.{Struct, Opaque, Enum, Trait, Function}
 use Rattle.bridge_decl.specs.declared.modules.Module.{Module}
-use Rattle.bridge_ast.specs.declared.environment.bounds.Side.TheVariants.{Longer, Shorter}
-use Rattle.bridge_ast.specs.declared.environment.fault.EnvFault.{EnvFault}
-use Rattle.bridge_ast.specs.declared.environment.fault.EnvFault.TheVariants.{Bad, NoMemory}
-use Rattle.bridge_ast.specs.declared.environment.fault.EnvFaultKind.{EnvFaultKind}
-use Rattle.bridge_ast.specs.declared.environment.fault.EnvFaultKind.TheVariants.{DuplicateModule, ParentMissing, DuplicateItem}
-use Rattle.bridge_ast.specs.declared.environment.fault.EnvFaultKind.TheVariants.{DuplicateLifetime, BoundOutOfRange}
-use Rattle.bridge_ast.specs.declared.environment.fault.EnvFaultKind.TheVariants.{BoundOneSided}
-use Rattle.bridge_ast.specs.declared.environment.fault.EnvPart.{EnvPart}
-use Rattle.bridge_ast.specs.declared.environment.fault.EnvPart.TheVariants as part
-use Rattle.bridge_ast.specs.declared.environment.fault.EnvPlace.{EnvPlace}
+use Rattle.bridge_ast.specs.declared.bounds.Side.TheVariants.{Longer, Shorter}
+use Rattle.bridge_ast.specs.declared.fault.EnvFault.{EnvFault}
+use Rattle.bridge_ast.specs.declared.fault.EnvFault.TheVariants.{Bad, NoMemory}
+use Rattle.bridge_ast.specs.declared.fault.EnvFaultKind.{EnvFaultKind}
+use Rattle.bridge_ast.specs.declared.fault.EnvFaultKind.TheVariants.{DuplicateModule, ParentMissing, DuplicateItem}
+use Rattle.bridge_ast.specs.declared.fault.EnvFaultKind.TheVariants.{DuplicateLifetime, BoundOutOfRange}
+use Rattle.bridge_ast.specs.declared.fault.EnvFaultKind.TheVariants.{BoundOneSided}
+use Rattle.bridge_ast.specs.declared.fault.EnvPart.{EnvPart}
+use Rattle.bridge_ast.specs.declared.fault.EnvPart.TheVariants as part
+use Rattle.bridge_ast.specs.declared.fault.EnvPlace.{EnvPlace}
+use Rattle.bridge_decl.specs.NameIndex.{meaning_of}
 use Rattle.bridge_ast.specs.Bounds.{in_range, answered}
-use Rattle.bridge_ast.specs.Each.{each, numbered}
+use Rattle.bridge_ast.specs.Each.{each, each_numbered}
 use Rattle.bridge_decl.specs.Names.{item_name}
 
 -- ---- names and what they stand for
@@ -28,16 +29,11 @@ use Rattle.bridge_decl.specs.Names.{item_name}
 abbrev pub Named : Type 0
 Named = List ℕ × EnvPart
 
--- what the name stands for, by the first that has it
-abbrev pub part_named : List Named → List ℕ → Option EnvPart
-part_named [] name = None
-part_named (first ∷ others) name = if bytes_eq first.0 name then Some first.1 else part_named others name
-
 abbrev pub items_named : List Item → List Named
-items_named items = numbered (λ i item. (item_name item, part.Item i)) items
+items_named items = each_numbered (λ i item. (item_name item, part.Item i)) items
 
 abbrev pub aliases_named : List Alias → List Named
-aliases_named aliases = numbered (λ i alias. (alias.name, part.Alias i)) aliases
+aliases_named aliases = each_numbered (λ i alias. (alias.name, part.Alias i)) aliases
 
 -- the items and then the aliases of a module
 abbrev pub named_in : Module → List Named
@@ -45,7 +41,7 @@ named_in m = items_named m.items ++ aliases_named m.aliases
 
 -- the nodes of an environment of lifetimes: that of the method of an item, or its own
 abbrev pub nodes_named : ℕ → Option ℕ → List LifetimeNode → List Named
-nodes_named item method nodes = numbered (λ n node. (node.name, part.Node item method n)) nodes
+nodes_named item method nodes = each_numbered (λ n node. (node.name, part.Node item method n)) nodes
 
 -- ---- modules and their paths
 
@@ -87,7 +83,7 @@ repeats kind here (Some earlier) = Bad kind here (Some earlier) ∷ []
 -- a fault, where a part of a module has a name that stands for an earlier one already
 abbrev pub repeats_name : EnvFaultKind → ℕ → List Named → List ℕ → EnvPart → List EnvFault
 repeats_name kind number earlier name what =
-    repeats kind (place number what) (option_map (place number) (part_named earlier name))
+    repeats kind (place number what) (option_map (place number) (meaning_of earlier name))
 
 -- the faults in the bounds of a node
 abbrev pub bound_faults : EnvPlace → List LifetimeNode → ℕ → LifetimeNode → List EnvFault
@@ -142,7 +138,7 @@ abbrev pub faults_under : List Module → Option ℕ → List ℕ → List EnvFa
 faults_under before None name = Bad ParentMissing (place (length before) part.Module) None ∷ []
 faults_under before (Some number) name =
     repeats DuplicateItem (place (length before) part.Module) (option_map (place number)
-    (part_named (named_at before number) name))
+    (meaning_of (named_at before number) name))
 
 abbrev pub submodule_faults : List Module → List (List ℕ) × List ℕ → List EnvFault
 submodule_faults before (parent, name) = faults_under before (module_at before parent) name

@@ -5,9 +5,9 @@ use Rattle.std.specs.Str.{bytes_eq}
 use Rattle.bridge_decl.specs.declared.modules.Alias.{Alias}
 use Rattle.bridge_decl.specs.declared.modules.Item.{Item}
 use Rattle.bridge_decl.specs.declared.modules.Module.{Module}
-use Rattle.bridge_ast.specs.declared.environment.walk.Head.{Head}
-use Rattle.bridge_ast.specs.declared.environment.walk.Head.TheVariants as head
-use Rattle.bridge_ast.specs.declared.environment.walk.ItemPlace.{ItemPlace}
+use Rattle.bridge_ast.specs.declared.trail.Head.{Head}
+use Rattle.bridge_ast.specs.declared.trail.Head.TheVariants as head
+use Rattle.bridge_ast.specs.declared.place.ItemPlace.{ItemPlace}
 use Rattle.bridge_ast.specs.AliasCount.{alias_count}
 use Rattle.bridge_decl.specs.Names.{item_name}
 

@@ -1,59 +1,41 @@
 -- When modules fit together: what an environment keeps.
-use Rattle.std.specs.Prelude.{◌≡◌, ℕ, List, [], ◌∷◌, ◌++◌, length, Option, Some, None, true, ⊤}
-use Rattle.bridge_decl.specs.declared.lifetimes.LifetimeNode.{LifetimeNode}
-use Rattle.bridge_decl.specs.declared.modules.Alias.{Alias}
+use Rattle.std.specs.Prelude.{◌≡◌, ◌≢◌, ℕ, List, [], ◌∷◌, ◌++◌, map, take, slice_get, Some, ◌⊎◌}
+use Rattle.std.specs.List.{All, AllPairs, Contains}
+use Rattle.bridge_decl.specs.declared.lifetimes.LifetimeEnv.{LifetimeEnv}
 use Rattle.bridge_decl.specs.declared.modules.Item.{Item}
+use Rattle.bridge_decl.specs.declared.modules.Item.TheVariants.{Struct, Opaque, Enum, Trait, Function}
 use Rattle.bridge_decl.specs.declared.modules.Module.{Module}
-use Rattle.bridge_ast.specs.declared.environment.bounds.Side.TheVariants.{Longer, Shorter}
-use Rattle.bridge_ast.specs.Bounds.{in_range, answered}
-use Rattle.bridge_ast.specs.EnvFaults.{module_at, parent_and_last, named_at, part_named, nodes_named, items_named, aliases_named}
-use Rattle.bridge_ast.specs.EnvFaults.{nodes_of, method_nodes_of}
+use Rattle.bridge_decl.specs.Lifetimes.{AreDistinct, IsSoundEnvironment}
 use Rattle.bridge_decl.specs.Names.{item_name}
 
--- P holds of each element of a list that goes on after others; it is told the elements that stand before
-abbrev pub AllAfter : {X : Type 0} → (List X → X → Type 0) → List X → List X → Type 0
-AllAfter P before [] = ⊤
-AllAfter P before (x ∷ xs) = P before x × AllAfter P (before ++ x ∷ []) xs
+-- the lifetimes that an item declares itself, and then those that each of its methods declares
+abbrev pub lifetimes_of : Item → List LifetimeEnv
+lifetimes_of (Struct item) = item.lifetimes ∷ map (λ method. method.lifetime_env) item.methods
+lifetimes_of (Opaque item) = item.lifetimes ∷ map (λ method. method.lifetime_env) item.methods
+lifetimes_of (Enum item) = map (λ method. method.lifetime_env) item.methods
+lifetimes_of (Trait item) = item.lifetimes ∷ map (λ method. method.lifetimes) item.methods
+lifetimes_of (Function item) = item.lifetimes ∷ []
 
--- no earlier lifetime has its name; its bounds are with lifetimes of the environment, and stand at their other ends too
-pub record IsSoundNode (item : ℕ) (method : Option ℕ) (nodes before : List LifetimeNode) (node : LifetimeNode) : Type 0 where
-  pub new : part_named (nodes_named item method before) node.name ≡ None
-  pub longer_declared : in_range Longer nodes node ≡ true
-  pub shorter_declared : in_range Shorter nodes node ≡ true
-  pub longer_has_shorter : answered Longer nodes (length before) node ≡ true
-  pub shorter_has_longer : answered Shorter nodes (length before) node ≡ true
+-- the lifetimes of each item and of each method fit together
+abbrev pub HasSoundLifetimes : Item → Type 0
+HasSoundLifetimes item = All IsSoundEnvironment (lifetimes_of item)
 
--- the lifetimes of a declaration fit together
-abbrev pub AreSoundNodes : ℕ → Option ℕ → List LifetimeNode → Type 0
-AreSoundNodes item method nodes = AllAfter (IsSoundNode item method nodes) [] nodes
+-- the names of the items of a module and then those of its aliases
+abbrev pub names_in : Module → List (List ℕ)
+names_in m = map item_name m.items ++ map (λ alias. alias.name) m.aliases
 
--- no earlier item has its name, and its lifetimes and those of its methods fit together
-pub record IsSoundItem (before : List Item) (item : Item) : Type 0 where
-  pub new : part_named (items_named before) (item_name item) ≡ None
-  pub lifetimes : AreSoundNodes (length before) None (nodes_of item)
-  pub methods : AllAfter (λ earlier nodes. AreSoundNodes (length before) (Some (length earlier)) nodes) [] (method_nodes_of item)
+-- the path is that of one of the modules with one name more, which no item and no alias there has
+pub record HasParent (modules : List Module) (path : List (List ℕ)) : Type 0 where
+  pub parent : Module
+  pub name : List ℕ
+  pub stands : Contains modules parent
+  pub ends : path ≡ parent.path ++ name ∷ []
+  pub free : ¬ Contains (names_in parent) name
 
--- no item and no earlier alias has its name
-abbrev pub IsSoundAlias : List Item → List Alias → Alias → Type 0
-IsSoundAlias items before alias = part_named (items_named items ++ aliases_named before) alias.name ≡ None
-
--- the module of a number has no item and no alias of the name; there is such a module
-abbrev pub IsFree : List Module → Option ℕ → List ℕ → Type 0
-IsFree before None name = ⊥
-IsFree before (Some number) name = part_named (named_at before number) name ≡ None
-
--- the root has no parent; another module's is an earlier module, in which its name is free
-abbrev pub HasParent : List Module → Option (List (List ℕ) × List ℕ) → Type 0
-HasParent before None = ⊤
-HasParent before (Some (parent, name)) = IsFree before (module_at before parent) name
-
--- no earlier module has its path, its parent stands earlier, and its items and aliases have names of their own
-pub record IsSoundModule (before : List Module) (m : Module) : Type 0 where
-  pub new : module_at before m.path ≡ None
-  pub parent : HasParent before (parent_and_last m.path)
-  pub items : AllAfter IsSoundItem [] m.items
-  pub aliases : AllAfter (IsSoundAlias m.items) [] m.aliases
-
--- the modules fit together
-abbrev pub AreSound : List Module → Type 0
-AreSound modules = AllAfter IsSoundModule [] modules
+-- the modules fit together: no two have one path; each is the root, whose path is empty, or stands after its parent; no two items
+-- or aliases of one module have one name; and the lifetimes of each declaration fit together
+pub record AreSound (modules : List Module) : Type 0 where
+  pub paths : AllPairs (λ earlier later. earlier.path ≢ later.path) modules
+  pub parents : (n : ℕ) (m : Module) → slice_get modules n ≡ Some m → (m.path ≡ []) ⊎ HasParent (take n modules) m.path
+  pub names : All (λ m. AreDistinct (names_in m)) modules
+  pub lifetimes : All (λ m. All HasSoundLifetimes m.items) modules

@@ -1,38 +1,28 @@
 //! Environments: modules whose names and bounds fit together.
 
-ghost use Rattle.std.specs.Prelude.{◌≡◌, IfOk, IfErr};
+ghost use Rattle.std.specs.Prelude.{◌≡◌, IfOk, IfErr, Contains};
+ghost use Rattle.bridge_decl.specs.declared.lifetimes.LifetimeEnv.{LifetimeEnv};
+ghost use Rattle.bridge_decl.specs.declared.modules.Item.{Item};
+ghost use Rattle.bridge_decl.specs.declared.modules.Module.{Module};
+ghost use Rattle.bridge_decl.specs.Lifetimes.{IsSoundEnvironment};
 ghost use Rattle.bridge_ast.specs.AliasCount.{alias_count};
 
-mod alias_ends;
-mod bounds;
-mod fault;
-mod items;
-mod names;
-mod nodes;
-mod plain;
-mod resolution;
-mod scopes;
-mod walk;
-
-use alias_ends::ends_of;
+use crate::alias_ends::ends_of;
+use crate::fault::EnvFault;
+use crate::scopes::{Scope, scopes_of};
+use crate::trail::Ends;
 use bridge_decl::Module;
-pub use fault::{EnvFault, EnvFaultKind, EnvPart, EnvPlace};
-pub use plain::item_named;
-pub use resolution::{CustomType, TraitAt};
-use scopes::{Scope, scopes_of};
 use sqlite_items::Items;
 use std::alloc::{AllocError, Global};
 use std::marker::Model;
-use walk::Ends;
-pub use walk::ItemPlace;
 
 /// Modules whose names and bounds fit together. Contracts see the list of the modules.
 #[derive(Drop)]
 pub struct Env {
-    modules: Items<Module>,
-    scopes: Items<Scope>,
-    ends: Ends,
-    aliases: usize,
+    pub(crate) modules: Items<Module>,
+    pub(crate) scopes: Items<Scope>,
+    pub(crate) ends: Ends,
+    pub(crate) aliases: usize,
 }
 
 impl Model for Env {
@@ -46,7 +36,7 @@ impl Model for Env {
 
     ghost coded = { Prim.hlevel (codes, condition.the_row.coded, written_type.the_row.coded) };
 
-    ghost use Rattle.bridge_ast.specs.EnvIndex.{IsIndex};
+    ghost use Rattle.bridge_ast.specs.inside.EnvIndex.{IsIndex};
 
     ghost view = { λ env. env.modules };
 
@@ -66,7 +56,7 @@ fn count_aliases(modules: &[Module]) -> Result<usize, AllocError>
 
 impl Env {
     ghost use Rattle.bridge_ast.specs.EnvFaults.{Tells, IsBad, faults_of};
-    ghost use Rattle.bridge_ast.specs.Sound.{AreSound};
+    ghost use Rattle.bridge_ast.specs.Sound.{AreSound, lifetimes_of};
 
     /// The environment of the modules. `Bad` tells the first fault: modules are looked through in order, in each first the path,
     /// then the items in order (the name, the item's lifetimes, those of its methods), then the aliases.
@@ -93,5 +83,14 @@ impl Env {
         ensures sound { AreSound result.now }
     {
         self.modules.as_slice()
+    }
+
+    /// The lifetimes that a struct, an opaque, a trait or a function declares fit together, and so do those of each method. The call
+    /// does nothing: its contract is the law.
+    pub fn lifetimes_fit_together(&self)
+        ensures { (m : Module) (item : Item) (env : LifetimeEnv) → Contains self.now m → Contains m.items item
+            → Contains (lifetimes_of item) env → IsSoundEnvironment env }
+    {
+        let _ = &self.modules;
     }
 }

@@ -1,3 +1,4 @@
 pub mod IdentLemmas
+pub mod NameIndexLemmas
 pub mod RenameLemmas
 pub mod TableLemmas

@@ -1,5 +1,5 @@
 -- Which texts are identifiers. A text is the list of its bytes, and `chars` gives its characters.
-use Rattle.std.specs.Prelude.{◌≡◌, ◌≢◌, ℕ, IsTrue, List, [], ◌∷◌, ◌++◌, ◌⊎◌, codes, All, Contains, Bool, true, ◌&&◌, not}
+use Rattle.std.specs.Prelude.{◌≡◌, ◌≢◌, ℕ, IsTrue, List, [], ◌∷◌, ◌++◌, ◌⊎◌, codes, All, Contains}
 use Rattle.std.specs.Str.{chars}
 use Rattle.unicode_ident.specs.Ident.{is_xid_start, is_xid_continue}
 
@@ -50,9 +50,3 @@ IsRaw text = (name : List ℕ) × (text ≡ codes "r#" ++ name) × MayBeRaw name
 -- the text is an identifier
 unfoldable pub IsIdent : List ℕ → Type 0
 IsIdent text = IsPlain text ⊎ IsRaw text
-
--- whether no element of a list is less than the one before it
-abbrev pub rises : {X : Type 0} → (X → X → Bool) → List X → Bool
-rises is_less [] = true
-rises is_less (x ∷ []) = true
-rises is_less (x ∷ y ∷ ys) = not (is_less y x) && rises is_less (y ∷ ys)

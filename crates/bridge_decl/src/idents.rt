@@ -8,7 +8,8 @@ ghost use Rattle.std.specs.Str.{chars};
 ghost use Rattle.std.specs.Cmp.{partial_equiv_from_equiv};
 ghost use Rattle.std.specs.Cmp.Lexicographic.{pointwise, slice_cmp, nat_list_eq_equiv, nat_list_cmp_total, texts_ties, texts_po};
 ghost use Rattle.std.specs.Ordering.{nat_cmp, is_lt};
-ghost use Rattle.bridge_decl.specs.Ident.{reserved_words, path_words, MayStart, HasShape, IsPlain, IsIdent, MayBeRaw, rises};
+ghost use Rattle.bridge_decl.specs.Ident.{reserved_words, path_words, MayStart, HasShape, IsPlain, IsIdent, MayBeRaw};
+ghost use Rattle.bridge_decl.specs.inside.Tables.{rises};
 
 use crate::text::{NoMemory, Text};
 use std::alloc::{AllocError, Global};

@@ -4,10 +4,10 @@ use Rattle.std.specs.Prelude.{slice_get}
 use Rattle.std.specs.List.{flat_map}
 use Rattle.serde_json.specs.Data.{Data}
 use Rattle.bridge_ast.specs.EnvFaults.{faults_of, IsBad, IsFirst}
-use Rattle.bridge_ast.specs.declared.environment.fault.EnvFault.{EnvFault}
-use Rattle.bridge_ast.specs.declared.environment.fault.EnvFault.TheVariants.{Bad}
-use Rattle.bridge_ast.specs.declared.environment.fault.EnvFaultKind.{EnvFaultKind}
-use Rattle.bridge_ast.specs.declared.environment.fault.EnvPlace.{EnvPlace}
+use Rattle.bridge_ast.specs.declared.fault.EnvFault.{EnvFault}
+use Rattle.bridge_ast.specs.declared.fault.EnvFault.TheVariants.{Bad}
+use Rattle.bridge_ast.specs.declared.fault.EnvFaultKind.{EnvFaultKind}
+use Rattle.bridge_ast.specs.declared.fault.EnvPlace.{EnvPlace}
 use Rattle.bridge_ast.specs.Sound.{AreSound}
 use Rattle.bridge_decl.specs.declared.modules.Module.{Module}
 use Rattle.bridge_read.specs.declared.fault.Fault.{Fault}

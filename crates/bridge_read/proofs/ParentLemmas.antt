@@ -10,17 +10,18 @@ use Rattle.bridge_decl.specs.declared.lifetimes.LifetimeNode.{LifetimeNode}
 use Rattle.bridge_decl.specs.declared.modules.Alias.{Alias}
 use Rattle.bridge_decl.specs.declared.modules.Item.{Item}
 use Rattle.bridge_decl.specs.declared.modules.Module.{Module}
-use Rattle.bridge_ast.specs.declared.environment.bounds.Side.TheVariants.{Longer, Shorter}
-use Rattle.bridge_ast.specs.declared.environment.fault.EnvFault.{EnvFault}
-use Rattle.bridge_ast.specs.declared.environment.fault.EnvFault.TheVariants.{Bad}
-use Rattle.bridge_ast.specs.declared.environment.fault.EnvFaultKind.{EnvFaultKind}
-use Rattle.bridge_ast.specs.declared.environment.fault.EnvFaultKind.TheVariants.{DuplicateModule, ParentMissing, DuplicateItem, DuplicateLifetime, BoundOutOfRange, BoundOneSided}
-use Rattle.bridge_ast.specs.declared.environment.fault.EnvPart.{EnvPart}
-use Rattle.bridge_ast.specs.declared.environment.fault.EnvPart.TheVariants as part
-use Rattle.bridge_ast.specs.declared.environment.fault.EnvPlace.{EnvPlace}
+use Rattle.bridge_ast.specs.declared.bounds.Side.TheVariants.{Longer, Shorter}
+use Rattle.bridge_ast.specs.declared.fault.EnvFault.{EnvFault}
+use Rattle.bridge_ast.specs.declared.fault.EnvFault.TheVariants.{Bad}
+use Rattle.bridge_ast.specs.declared.fault.EnvFaultKind.{EnvFaultKind}
+use Rattle.bridge_ast.specs.declared.fault.EnvFaultKind.TheVariants.{DuplicateModule, ParentMissing, DuplicateItem, DuplicateLifetime, BoundOutOfRange, BoundOneSided}
+use Rattle.bridge_ast.specs.declared.fault.EnvPart.{EnvPart}
+use Rattle.bridge_ast.specs.declared.fault.EnvPart.TheVariants as part
+use Rattle.bridge_ast.specs.declared.fault.EnvPlace.{EnvPlace}
+use Rattle.bridge_decl.specs.NameIndex.{meaning_of}
 use Rattle.bridge_ast.specs.Bounds.{in_range, answered}
 use Rattle.bridge_ast.specs.Each.{each, each_after}
-use Rattle.bridge_ast.specs.EnvFaults.{Named, aliases_named, items_named, named_at, nodes_named, part_named, path_eq, place, module_at, parent_and_last, where_so, repeats, repeats_name, bound_faults, node_faults, lifetime_faults, method_nodes_of, nodes_of, method_faults, item_faults, alias_faults, faults_under, parent_faults, content_faults, module_faults, faults_of, path_faults}
+use Rattle.bridge_ast.specs.EnvFaults.{Named, aliases_named, items_named, named_at, nodes_named, path_eq, place, module_at, parent_and_last, where_so, repeats, repeats_name, bound_faults, node_faults, lifetime_faults, method_nodes_of, nodes_of, method_faults, item_faults, alias_faults, faults_under, parent_faults, content_faults, module_faults, faults_of, path_faults}
 use Rattle.bridge_decl.specs.Names.{item_name}
 use Rattle.bridge_ast.proofs.PathLemmas.{parent_and_last-snoc, path_itself}
 use Rattle.bridge_read.specs.declared.input.Declared.{Declared}
@@ -81,7 +82,7 @@ not_side e = cc
 
 named_without : (kind : EnvFaultKind) → ¬ (kind ≡ ParentMissing) → (inside : ℕ) (earlier : List Named) (name : List ℕ) (what : EnvPart)
     → Without (repeats_name kind inside earlier name what)
-named_without kind apart inside earlier name what = repeats_without kind apart (place inside what) (option_map (place inside) (part_named earlier name))
+named_without kind apart inside earlier name what = repeats_without kind apart (place inside what) (option_map (place inside) (meaning_of earlier name))
 
 bound_without : (here : EnvPlace) (nodes : List LifetimeNode) (n : ℕ) (node : LifetimeNode) → Without (bound_faults here nodes n node)
 bound_without here nodes n node =
@@ -134,7 +135,7 @@ AreRooted before (m ∷ ms) = IsRooted before (parent_and_last m.path) × AreRoo
 under_without : (before : List Module) (found : Option ℕ) (name : List ℕ) → IsSome found → Without (faults_under before found name)
 under_without before None name some = absurd (false≢true some)
 under_without before (Some above) name some =
-    repeats_without DuplicateItem not_item (place (length before) part.Module) (option_map (place above) (part_named (named_at before above) name))
+    repeats_without DuplicateItem not_item (place (length before) part.Module) (option_map (place above) (meaning_of (named_at before above) name))
 
 parent_without : (before : List Module) (split : Option (List (List ℕ) × List ℕ)) → IsRooted before split → Without (parent_faults before split)
 parent_without before None is = nothing

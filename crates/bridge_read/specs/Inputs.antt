@@ -5,15 +5,15 @@ use Rattle.serde_json.specs.Data.{Data}
 use Rattle.serde_json.specs.Read.{read}
 use Rattle.bridge_ast.specs.EnvFaults.{faults_of}
 use Rattle.bridge_ast.specs.Sound.{AreSound}
-use Rattle.bridge_ast.specs.declared.environment.fault.EnvFault.{EnvFault}
-use Rattle.bridge_ast.specs.declared.environment.fault.EnvFault.TheVariants.{Bad, NoMemory as no_env_memory}
-use Rattle.bridge_ast.specs.declared.environment.fault.EnvFaultKind.{EnvFaultKind}
-use Rattle.bridge_ast.specs.declared.environment.fault.EnvFaultKind.TheVariants as env
+use Rattle.bridge_ast.specs.declared.fault.EnvFault.{EnvFault}
+use Rattle.bridge_ast.specs.declared.fault.EnvFault.TheVariants.{Bad, NoMemory as no_env_memory}
+use Rattle.bridge_ast.specs.declared.fault.EnvFaultKind.{EnvFaultKind}
+use Rattle.bridge_ast.specs.declared.fault.EnvFaultKind.TheVariants as env
 use Rattle.bridge_read.specs.declared.fault.Fault.{Fault}
 use Rattle.bridge_read.specs.declared.fault.InputKind.{InputKind}
 use Rattle.bridge_read.specs.declared.fault.InputKind.TheVariants as kind
 use Rattle.bridge_read.specs.declared.input.Declared.{Declared}
-use Rattle.bridge_ast.specs.declared.environment.fault.EnvPlace.{EnvPlace}
+use Rattle.bridge_ast.specs.declared.fault.EnvPlace.{EnvPlace}
 use Rattle.bridge_decl.specs.declared.modules.Module.{Module}
 use Rattle.bridge_read.specs.declared.input.Input.{Input}
 use Rattle.bridge_read.specs.declared.input.InputFault.{InputFault}

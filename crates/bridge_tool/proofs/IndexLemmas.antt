@@ -6,7 +6,7 @@ use Rattle.std.proofs.lemmas.List.{map_more, length-map, get_or-take, take-map, 
 use Rattle.std.proofs.Math.Seq.{get_or-append_seam}
 use Rattle.std.proofs.lemmas.List.Quantifiers.{all_pairs_push}
 use Rattle.std.proofs.lemmas.Option.{slice_get_within, get_or_from_slice_get, slice_get_read}
-use Rattle.bridge_decl.specs.Environments.{AreDistinct}
+use Rattle.bridge_decl.specs.Lifetimes.{AreDistinct}
 use Rattle.std.specs.Str.{bytes_eq}
 use Rattle.std.specs.Ordering.{nat_cmp, is_eq}
 use Rattle.std.specs.Cmp.Lexicographic.{slice_cmp}

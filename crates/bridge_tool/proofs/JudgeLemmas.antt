@@ -7,7 +7,7 @@ use Rattle.std.proofs.lemmas.List.Elements.{Contains-append_left, Contains-appen
 use Rattle.bridge_decl.specs.declared.methods.Method.{Method}
 use Rattle.bridge_decl.specs.declared.modules.Item.{Item}
 use Rattle.bridge_decl.specs.declared.modules.Module.{Module}
-use Rattle.bridge_decl.specs.Environments.{lifetime_names}
+use Rattle.bridge_decl.specs.Lifetimes.{lifetime_names}
 use Rattle.bridge_decl.specs.Names.{item_name, Place}
 use Rattle.bridge_tool.specs.declared.rules.Rule.TheVariants as rule
 use Rattle.bridge_tool.specs.Breaks.{Breaks, BreakNothing}

@@ -3,7 +3,7 @@ use Rattle.std.proofs.Common.{◌≡◌, ℕ, ◌+◌, ◌<◌, ◌≤◌, List,
 use Rattle.std.specs.Prelude.{Any, Contains}
 use Rattle.std.proofs.lemmas.List.{append-nil, take_more, take_all, map-append, length-map, get_or-map}
 use Rattle.bridge_decl.specs.declared.lifetimes.LifetimeEnv.{LifetimeEnv}
-use Rattle.bridge_decl.specs.Environments.{declared_longer}
+use Rattle.bridge_decl.specs.Lifetimes.{declared_longer}
 use Rattle.hir_life.specs.Environment.{longer_of}
 use Rattle.hir_life.specs.Outlives.{Linked, Outlives}
 use Rattle.bridge_tool.specs.declared.borrow.Leaf.{Leaf as Kept}

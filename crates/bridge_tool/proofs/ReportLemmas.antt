@@ -13,7 +13,7 @@ use Rattle.bridge_decl.specs.declared.modules.Item.{Item}
 use Rattle.bridge_decl.specs.declared.modules.Module.{Module}
 use Rattle.bridge_decl.specs.declared.paths.PathType.{PathType}
 use Rattle.bridge_decl.specs.declared.types.TypeName.{out-TypeName}
-use Rattle.bridge_decl.specs.Environments.{lifetime_names}
+use Rattle.bridge_decl.specs.Lifetimes.{lifetime_names}
 use Rattle.bridge_decl.specs.Names.{item_name}
 use Rattle.bridge_tool.specs.Checks.{Check, name, path, lifetime, lifetime_name, Tested, method_names, method_paths, method_lifetimes, receiver_paths, returned_paths, receiver_lifetimes, returned_lifetimes, type_paths, type_lifetimes, tested_in_method, tested_in_item, tested_in_module, tested_at_number, tested_in, method_checks}
 use Rattle.bridge_tool.specs.Chosen.{Chosen}

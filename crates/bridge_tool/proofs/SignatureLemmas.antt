@@ -6,7 +6,7 @@ use Rattle.std.proofs.lemmas.Simd.{map-map}
 use Rattle.bridge_decl.specs.declared.lifetimes.LifetimeEnv.{LifetimeEnv}
 use Rattle.bridge_decl.specs.declared.lifetimes.LifetimeNode.{LifetimeNode}
 use Rattle.bridge_decl.specs.Ident.{IsIdent}
-use Rattle.bridge_decl.specs.Environments.{declared_longer, declared_shorter, IsSoundEnvironment}
+use Rattle.bridge_decl.specs.Lifetimes.{declared_longer, declared_shorter, IsSoundEnvironment}
 use Rattle.hir_life.specs.declared.bounds.BoundedLifetime.{BoundedLifetime}
 use Rattle.hir_life.specs.Environment.{IsSound, longer_of, shorter_of}
 use Rattle.bridge_tool.proofs.ChosenLemmas.{all_at}

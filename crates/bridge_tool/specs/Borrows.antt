@@ -14,7 +14,7 @@ use Rattle.bridge_decl.specs.declared.methods.Method.{Method}
 use Rattle.bridge_decl.specs.declared.methods.Param.{Param}
 use Rattle.bridge_decl.specs.declared.modules.Item.{Item}
 use Rattle.bridge_decl.specs.declared.modules.Module.{Module}
-use Rattle.bridge_decl.specs.Environments.{lifetime_names, declared_longer}
+use Rattle.bridge_decl.specs.Lifetimes.{lifetime_names, declared_longer}
 use Rattle.bridge_decl.specs.Names.{item_name}
 use Rattle.hir_life.specs.Outlives.{Outlives}
 use Rattle.bridge_tool.specs.declared.report.InputPlace.{InputPlace}

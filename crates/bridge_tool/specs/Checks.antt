@@ -10,10 +10,10 @@ use Rattle.bridge_decl.specs.declared.types.TypeName.{TypeName, out-TypeName}
 use Rattle.bridge_decl.specs.declared.types.TypeName.TheOpen.{TypeName-F}
 use Rattle.bridge_decl.specs.declared.methods.Method.{Method}
 use Rattle.bridge_decl.specs.declared.methods.SelfParam.{SelfParam}
-use Rattle.bridge_ast.specs.declared.environment.walk.ItemPlace.{ItemPlace}
+use Rattle.bridge_ast.specs.declared.place.ItemPlace.{ItemPlace}
 use Rattle.bridge_decl.specs.declared.modules.Item.{Item}
 use Rattle.bridge_decl.specs.declared.modules.Module.{Module}
-use Rattle.bridge_decl.specs.Environments.{lifetime_names}
+use Rattle.bridge_decl.specs.Lifetimes.{lifetime_names}
 use Rattle.bridge_decl.specs.Ident.{IsIdent}
 use Rattle.bridge_decl.specs.Names.{item_name, Place}
 use Rattle.bridge_ast.specs.Types.{NamesType}

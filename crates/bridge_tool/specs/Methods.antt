@@ -4,7 +4,7 @@ use Rattle.bridge_decl.specs.declared.methods.Method.{Method}
 use Rattle.bridge_decl.specs.declared.modules.Item.{Item}
 use Rattle.bridge_decl.specs.declared.modules.Item.TheVariants.{Struct, Opaque, Enum, Trait, Function}
 use Rattle.bridge_decl.specs.declared.modules.Module.{Module}
-use Rattle.bridge_decl.specs.Environments.{IsSoundEnvironment}
+use Rattle.bridge_decl.specs.Lifetimes.{IsSoundEnvironment}
 
 -- the methods of an item, in order
 abbrev pub methods_of : Item → List Method

@@ -4,7 +4,7 @@ use Rattle.bridge_decl.specs.declared.lifetimes.LifetimeEnv.{LifetimeEnv}
 use Rattle.bridge_decl.specs.declared.lifetimes.LifetimeNode.{LifetimeNode}
 use Rattle.bridge_decl.specs.declared.modules.Item.{Item}
 use Rattle.bridge_decl.specs.declared.modules.Module.{Module}
-use Rattle.bridge_decl.specs.Environments.{lifetime_names}
+use Rattle.bridge_decl.specs.Lifetimes.{lifetime_names}
 use Rattle.bridge_decl.specs.Ident.{IsIdent}
 use Rattle.hir_life.specs.declared.bounds.BoundedLifetime.{BoundedLifetime}
 use Rattle.hir_life.specs.Environment.{Environment}

@@ -7,7 +7,7 @@ ghost use Rattle.hir_life.specs.Flags.{FlagsOutliving};
 ghost use Rattle.hir_life.specs.Outlives.{Outlives};
 ghost use Rattle.bridge_decl.specs.declared.lifetimes.LifetimeEnv.{LifetimeEnv as Signature};
 ghost use Rattle.bridge_decl.specs.declared.methods.Method.{Method as Declared};
-ghost use Rattle.bridge_decl.specs.Environments.{lifetime_names, declared_longer, IsSoundEnvironment};
+ghost use Rattle.bridge_decl.specs.Lifetimes.{lifetime_names, declared_longer, IsSoundEnvironment};
 ghost use Rattle.bridge_decl.specs.Ident.{IsIdent};
 ghost use Rattle.bridge_ast.specs.Sound.{AreSound};
 ghost use Rattle.bridge_tool.specs.Borrows.{numbers, leaves_at, param_leaves, leaves as leaves_in, named, IsReturned, Callable, callables_of, callables_in, IsCallableReport, AreReports, callables_at};

@@ -1,7 +1,7 @@
 //! The environment of a signature, as the walks over lifetimes take it.
 
 ghost use Rattle.std.specs.Prelude.{◌≡◌, IfOk};
-ghost use Rattle.bridge_decl.specs.Environments.{IsSoundEnvironment};
+ghost use Rattle.bridge_decl.specs.Lifetimes.{IsSoundEnvironment};
 ghost use Rattle.bridge_decl.specs.Ident.{IsIdent};
 ghost use Rattle.bridge_tool.specs.Signature.{bounded, environment, HasNames};
 

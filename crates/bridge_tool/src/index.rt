@@ -1,7 +1,7 @@
 //! Names by their places, so that no list of names is searched.
 
 ghost use Rattle.std.specs.Prelude.{◌≡◌, ℕ, List, [], ◌∷◌, ◌++◌, length, OnOk, IfOk, MatchBool, MatchOption, IsNone, IsSome};
-ghost use Rattle.bridge_decl.specs.Environments.{AreDistinct, lifetime_names};
+ghost use Rattle.bridge_decl.specs.Lifetimes.{AreDistinct, lifetime_names};
 ghost use Rattle.bridge_tool.specs.Index.{Indexes, number_of};
 
 use bridge_ast::{LifetimeEnv, NoMemory, Text};

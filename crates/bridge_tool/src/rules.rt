@@ -4,7 +4,7 @@ ghost use Rattle.std.specs.Prelude.{◌≡◌, ◌<◌, ℕ, List, [], ◌∷◌
 ghost use Rattle.std.specs.List.{flat_map};
 ghost use Rattle.bridge_decl.specs.declared.modules.Module.{Module as Declared};
 ghost use Rattle.bridge_decl.specs.declared.types.TypeName.{out-TypeName};
-ghost use Rattle.bridge_decl.specs.Environments.{lifetime_names, IsSoundEnvironment};
+ghost use Rattle.bridge_decl.specs.Lifetimes.{lifetime_names, IsSoundEnvironment};
 ghost use Rattle.bridge_tool.specs.Checks.{name, path, lifetime, Fails, type_paths, type_lifetimes, lifetime_name, method_names, method_paths, method_lifetimes, receiver_paths, receiver_lifetimes, returned_paths, returned_lifetimes, tested_in_method, tested_in_item, tested_in_module, tested_in, tested_at_number};
 ghost use Rattle.bridge_tool.specs.Index.{Indexes};
 ghost use Rattle.bridge_tool.specs.Chosen.{Chosen};

@@ -6,7 +6,7 @@ use Rattle.std.proofs.lemmas.Simd.{map-map}
 use Rattle.bridge_decl.specs.declared.lifetimes.Lifetime.{Lifetime}
 use Rattle.bridge_decl.specs.declared.lifetimes.Lifetime.TheVariants as written
 use Rattle.bridge_decl.specs.declared.lifetimes.LifetimeEnv.{LifetimeEnv}
-use Rattle.bridge_decl.specs.Environments.{IsSoundEnvironment, declared_longer, declared_shorter}
+use Rattle.bridge_decl.specs.Lifetimes.{IsSoundEnvironment, declared_longer, declared_shorter}
 use Rattle.hir_elide.specs.declared.numbering.Numbering.{Numbering}
 use Rattle.hir_elide.specs.declared.params.ParamLifetimeLowerer.{ParamLifetimeLowerer}
 use Rattle.hir_elide.specs.declared.returns.ReturnLifetimeLowerer.{ReturnLifetimeLowerer}

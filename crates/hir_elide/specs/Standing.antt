@@ -1,6 +1,6 @@
 -- What a lowerer knows of a signature as far as it was gone through.
 use Rattle.std.specs.Prelude.{◌≡◌, ◌≤◌, [], length}
-use Rattle.bridge_decl.specs.Environments.{IsSoundEnvironment, lifetime_names}
+use Rattle.bridge_decl.specs.Lifetimes.{IsSoundEnvironment, lifetime_names}
 use Rattle.hir_elide.specs.declared.definition.DefinitionLowerer.{DefinitionLowerer}
 use Rattle.hir_elide.specs.declared.numbering.Numbering.{Numbering}
 use Rattle.hir_elide.specs.declared.params.ParamLifetimeLowerer.{ParamLifetimeLowerer}

@@ -1,7 +1,7 @@
 //! The lifetimes of a definition's fields.
 
 ghost use Rattle.std.specs.Prelude.{◌≡◌, ◌≤◌, IfOk, length};
-ghost use Rattle.bridge_decl.specs.Environments.{IsSoundEnvironment, lifetime_names};
+ghost use Rattle.bridge_decl.specs.Lifetimes.{IsSoundEnvironment, lifetime_names};
 ghost use Rattle.hir_elide.specs.Index.{number_of};
 ghost use Rattle.hir_elide.specs.Phases.{Defining};
 ghost use Rattle.hir_elide.specs.Signature.{begun};

@@ -1,7 +1,7 @@
 //! Names by their places, so that no list of names is searched.
 
 ghost use Rattle.std.specs.Prelude.{◌≡◌, ℕ, List, [], ◌∷◌, ◌++◌, length, OnOk, IfOk};
-ghost use Rattle.bridge_decl.specs.Environments.{lifetime_names};
+ghost use Rattle.bridge_decl.specs.Lifetimes.{lifetime_names};
 ghost use Rattle.hir_elide.specs.Index.{Indexes};
 
 use bridge_decl::{LifetimeEnv, NoMemory, Text};

@@ -1,7 +1,7 @@
 //! Numbers of lifetimes, as far as a signature was gone through.
 
 ghost use Rattle.std.specs.Prelude.{◌≡◌, ◌≤◌, IfOk, length};
-ghost use Rattle.bridge_decl.specs.Environments.{lifetime_names};
+ghost use Rattle.bridge_decl.specs.Lifetimes.{lifetime_names};
 ghost use Rattle.bridge_decl.specs.declared.lifetimes.Lifetime.TheVariants as written;
 ghost use Rattle.hir_elide.specs.Generics.{Gives, filled, own_or_new, after_own, lowered_each, after_each, met};
 ghost use Rattle.hir_elide.specs.Index.{number_of};

@@ -1,7 +1,7 @@
 //! The first phase of a signature: the borrow of its receiver.
 
 ghost use Rattle.std.specs.Prelude.{◌≡◌, ◌<◌, ◌↔◌, Ok, Err, IfOk, IfErr, OnOk, IsErrOf, length};
-ghost use Rattle.bridge_decl.specs.Environments.{IsSoundEnvironment};
+ghost use Rattle.bridge_decl.specs.Lifetimes.{IsSoundEnvironment};
 ghost use Rattle.hir_elide.specs.Numbering.{most, number_in};
 ghost use Rattle.hir_elide.specs.Occurrences.{Borrow, Signature};
 ghost use Rattle.hir_elide.specs.Phases.{used};

@@ -1,7 +1,7 @@
 //! Signatures and definitions, and what their lifetimes are lowered to.
 
 ghost use Rattle.std.specs.Prelude.{◌≡◌, IfOk, length};
-ghost use Rattle.bridge_decl.specs.Environments.{IsSoundEnvironment};
+ghost use Rattle.bridge_decl.specs.Lifetimes.{IsSoundEnvironment};
 
 use crate::{
     DefinitionLowerer, ElideFault, LifetimeLowerer, LowerLifetime, SelfParamLifetimeLowerer,

@@ -1,6 +1,6 @@
 -- UnresolvedPath: a path names no struct, opaque or enum.
 use Rattle.std.specs.Prelude.{◌≡◌, ℕ, List, [], ◌∷◌}
-use Rattle.bridge_ast.specs.declared.environment.walk.ItemPlace.{ItemPlace}
+use Rattle.bridge_ast.specs.declared.place.ItemPlace.{ItemPlace}
 use Rattle.bridge_decl.specs.declared.modules.Item.{Item}
 use Rattle.bridge_decl.specs.declared.modules.Module.{Module}
 use Rattle.bridge_decl.specs.declared.paths.PathType.{PathType}

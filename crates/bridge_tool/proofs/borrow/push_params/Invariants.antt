@@ -1,6 +1,6 @@
 use Rattle.std.proofs.Common.{◌≡◌, ◌++◌, map, take}
 use Rattle.bridge_decl.specs.declared.lifetimes.LifetimeEnv.{LifetimeEnv}
-use Rattle.bridge_decl.specs.Environments.{lifetime_names}
+use Rattle.bridge_decl.specs.Lifetimes.{lifetime_names}
 use Rattle.bridge_tool.specs.Borrows.{param_leaves}
 use Rattle.bridge_tool.specs.Index.{Indexes}
 use Rattle.bridge_tool.specs.Leaves.{leaf_of}

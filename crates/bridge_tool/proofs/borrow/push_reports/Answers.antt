@@ -1,6 +1,6 @@
 use Rattle.std.proofs.Common.{refl}
 use Rattle.bridge_decl.specs.declared.methods.Method.{Method}
-use Rattle.bridge_decl.specs.Environments.{IsSoundEnvironment}
+use Rattle.bridge_decl.specs.Lifetimes.{IsSoundEnvironment}
 use Rattle.bridge_decl.specs.Names.{item_name}
 use Rattle.bridge_tool.specs.Signature.{HasNames}
 use Rattle.bridge_tool.specs.Methods.{methods_of}

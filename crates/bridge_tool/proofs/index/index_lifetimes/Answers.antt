@@ -1,5 +1,5 @@
 use Rattle.std.proofs.Common.{subst, refl, map}
-use Rattle.bridge_decl.specs.Environments.{AreDistinct}
+use Rattle.bridge_decl.specs.Lifetimes.{AreDistinct}
 use Rattle.bridge_tool.proofs.IndexLemmas.{one_more, no_more}
 use Rattle.bridge_tool.proofs.index.index_lifetimes.Goals as goal
 

@@ -1,5 +1,5 @@
 use Rattle.std.proofs.Common.{map, take}
-use Rattle.bridge_decl.specs.Environments.{AreDistinct}
+use Rattle.bridge_decl.specs.Lifetimes.{AreDistinct}
 use Rattle.bridge_tool.specs.Index.{Indexes}
 use Rattle.bridge_tool.proofs.index.index_lifetimes.Given as goal
 

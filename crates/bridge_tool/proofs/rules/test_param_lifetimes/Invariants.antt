@@ -2,7 +2,7 @@ use Rattle.std.proofs.Common.{List, map, take}
 use Rattle.std.specs.List.{flat_map}
 use Rattle.bridge_decl.specs.declared.modules.Module.{Module}
 use Rattle.bridge_decl.specs.declared.types.TypeName.{out-TypeName}
-use Rattle.bridge_decl.specs.Environments.{lifetime_names}
+use Rattle.bridge_decl.specs.Lifetimes.{lifetime_names}
 use Rattle.bridge_tool.specs.Checks.{lifetime, lifetime_name, type_lifetimes}
 use Rattle.bridge_tool.specs.Index.{Indexes}
 use Rattle.bridge_tool.specs.Reports.{tested_at, Reports}

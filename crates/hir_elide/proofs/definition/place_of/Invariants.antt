@@ -1,5 +1,5 @@
 use Rattle.std.proofs.Common.{◌≡◌, drop, map}
-use Rattle.bridge_decl.specs.Environments.{lifetime_names}
+use Rattle.bridge_decl.specs.Lifetimes.{lifetime_names}
 use Rattle.hir_elide.specs.Index.{number_of}
 use Rattle.hir_elide.proofs.PlaceLemmas.{shifted}
 use Rattle.hir_elide.proofs.definition.place_of.Given as goal

@@ -1,6 +1,0 @@
-use Rattle.std.proofs.Common.{take}
-use Rattle.bridge_ast.specs.BoundLists.{AddsToEach}
-use Rattle.bridge_ast.proofs.environment.bounds.add_to_each.Given as goal
-
-abbrev pub invariant-loop-place : goal.invariant-loop-place
-invariant-loop-place l = AddsToEach l.initial.lists l.lists (take l.place-index l.places) l.number

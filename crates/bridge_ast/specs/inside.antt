@@ -1,0 +1,9 @@
+pub mod AliasEnds
+pub mod BoundLists
+pub mod EnvIndex
+pub mod Fitting
+pub mod Pairs
+pub mod Resolution
+pub mod Scopes
+pub mod Searches
+pub mod Trails
