@@ -263,6 +263,3 @@ impl BackendAttrSupport {
         }
     }
 }
-
-#[cfg(test)]
-mod tests;

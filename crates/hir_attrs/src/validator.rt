@@ -61,6 +61,3 @@ fn clone_pair(pair: &(Text, Text), alloc: Global) -> Result<(Text, Text), NoMemo
 {
     Ok((pair.0.try_clone(alloc)?, pair.1.try_clone(alloc)?))
 }
-
-#[cfg(test)]
-mod tests;

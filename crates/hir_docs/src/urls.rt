@@ -69,6 +69,3 @@ impl DocsUrlGenerator {
         }
     }
 }
-
-#[cfg(test)]
-mod tests;

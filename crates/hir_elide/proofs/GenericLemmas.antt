@@ -1,68 +1,91 @@
 -- Lists of lifetimes, lowered one after another.
-use Rattle.std.proofs.Common.{◌≡◌, ◌⊎◌, inl, inr, arith, ℕ, suc, ◌+◌, ◌-◌, ◌<◌, List, [], ◌∷◌, ◌++◌, take, drop, get_or, length, replicate, Ok, Err, Result, refl, sym, ap, subst, ◌∙◌}
-use Rattle.std.proofs.lemmas.List.{drop_more, replicate-append-replicate, take-append-drop, take_more}
+use Rattle.std.proofs.Common.{◌≡◌, arith, ℕ, suc, ◌+◌, ◌-◌, ◌<◌, List, [], ◌∷◌, ◌++◌, take, drop, get_or, length, map, replicate, Ok, Err, Result, refl, sym, ap, subst, ◌∙◌, append_assoc}
+use Rattle.std.proofs.lemmas.List.{append-nil, drop_more, replicate-append-replicate, take-append-drop, take_more, map-append}
 use Rattle.bridge_decl.specs.declared.lifetimes.Lifetime.{Lifetime}
 use Rattle.bridge_decl.specs.declared.lifetimes.Lifetime.TheVariants as written
+use Rattle.bridge_decl.specs.Lifetimes.{lifetime_names}
 use Rattle.hir_elide.specs.declared.fault.ElideFault.{ElideFault}
 use Rattle.hir_elide.specs.declared.fault.ElideFault.TheVariants as fault
-use Rattle.hir_elide.specs.Generics.{◌>>=◌, Tells, after_each, lowered_each}
-use Rattle.hir_elide.specs.Occurrences.{Signature}
-use Rattle.hir_elide.specs.Phases.{Phase, after, lowered}
+use Rattle.hir_elide.specs.Generics.{TellsFault, all_or_fault, with_first}
+use Rattle.hir_elide.specs.Numbering.{Number, lifetime_numbers, one_if_anonymous}
+use Rattle.hir_elide.specs.Occurrences.{Occurrence, Signature, count_of}
+use Rattle.hir_elide.specs.Phases.{Defining, Phase, Returning, Using, defined, lowered, lowered_each, occurring, returned, with_uses}
+use Rattle.hir_elide.proofs.OccurrenceLemmas.{count_used, numbers_more}
 use Rattle.hir_life.specs.declared.maybe_static.MaybeStatic.{MaybeStatic}
 
-ok_same : {A : Type 0} (x y : A) (r : Result A ElideFault) → r ≡ Ok x → r ≡ Ok y → x ≡ y
-ok_same x y r h g = cc
+-- ---- a list of numbers and faults
 
-bind_ok : {A B : Type 0} (r : Result A ElideFault) (f : A → Result B ElideFault) (x : B) → (r >>= f) ≡ Ok x → (y : A) × (r ≡ Ok y) × (f y ≡ Ok x)
-bind_ok (Ok y) f x h = (y, refl, h)
-bind_ok (Err e) f x h = absurd cc
+pub all_ok : (ns : List (MaybeStatic ℕ)) → all_or_fault (map Ok ns) ≡ Ok ns
+all_ok [] = refl
+all_ok (n ∷ ns) = ap (with_first n) (all_ok ns)
 
--- what is lowered of a list is that of its first lifetime, and that of the others after it
-parts : (phase : Phase) (s : Signature) (k : Lifetime) (ks : List Lifetime) (ns : List (MaybeStatic ℕ)) → lowered_each phase s (k ∷ ks) ≡ Ok ns
-    → (m : MaybeStatic ℕ) × (ms : List (MaybeStatic ℕ)) × (lowered phase s k ≡ Ok m) × (lowered_each phase (after phase s k m) ks ≡ Ok ms) × (m ∷ ms ≡ ns)
-parts phase s k ks ns h =
-    let one = bind_ok (lowered phase s k) (λ m. lowered_each phase (after phase s k m) ks >>= (λ ms. Ok (m ∷ ms))) ns h in
-    let others = bind_ok (lowered_each phase (after phase s k one.0) ks) (λ ms. Ok (one.0 ∷ ms)) ns one.2 in
-    (one.0, others.0, one.1, others.1, ok_same (one.0 ∷ others.0) ns (Ok (one.0 ∷ others.0)) refl others.2)
+first_err : (ns : List (MaybeStatic ℕ)) (e : ElideFault) (rest : List Number) → all_or_fault (map Ok ns ++ Err e ∷ rest) ≡ Err e
+first_err [] e rest = refl
+first_err (n ∷ ns) e rest = ap (with_first n) (first_err ns e rest)
 
--- and put together again
-first_ok : (phase : Phase) (s : Signature) (k : Lifetime) (ks : List Lifetime) (m : MaybeStatic ℕ) → lowered phase s k ≡ Ok m
-    → lowered_each phase s (k ∷ ks) ≡ (lowered_each phase (after phase s k m) ks >>= (λ ms. Ok (m ∷ ms)))
-first_ok phase s k ks m h = ap (λ r. r >>= (λ n. lowered_each phase (after phase s k n) ks >>= (λ ms. Ok (n ∷ ms)))) h
+of_rest : (n : MaybeStatic ℕ) (r : Result (List (MaybeStatic ℕ)) ElideFault) (e : ElideFault) → with_first n r ≡ Err e → r ≡ Err e
+of_rest n (Ok ns) e h = absurd cc
+of_rest n (Err d) e h = h
 
-no_more : (phase : Phase) (s : Signature) (ns : List (MaybeStatic ℕ)) → lowered_each phase s [] ≡ Ok ns → [] ≡ ns
-no_more phase s ns h = ok_same [] ns (Ok []) refl h
+err_more : (xs ys : List Number) (e : ElideFault) → all_or_fault xs ≡ Err e → all_or_fault (xs ++ ys) ≡ Err e
+err_more [] ys e h = absurd cc
+err_more (Ok n ∷ xs) ys e h = ap (with_first n) (err_more xs ys e (of_rest n (all_or_fault xs) e h))
+err_more (Err d ∷ xs) ys e h = h
 
--- one more lifetime at the end
-pub push_ok : (phase : Phase) (s : Signature) (ls : List Lifetime) (ns : List (MaybeStatic ℕ)) (l : Lifetime) (n : MaybeStatic ℕ)
-    → lowered_each phase s ls ≡ Ok ns → lowered phase (after_each phase s ls ns) l ≡ Ok n → lowered_each phase s (ls ++ l ∷ []) ≡ Ok (ns ++ n ∷ [])
-push_ok phase s [] ns l n h g = first_ok phase s l [] n g ∙ ap (λ xs. Ok (xs ++ n ∷ [])) (no_more phase s ns h)
-push_ok phase s (k ∷ ks) ns l n h g =
-    let p = parts phase s k ks ns h in
-    let there : lowered phase (after_each phase (after phase s k p.0) ks p.1) l ≡ Ok n = subst (λ xs. lowered phase (after_each phase s (k ∷ ks) xs) l ≡ Ok n) (sym p.4) g in
-    first_ok phase s k (ks ++ l ∷ []) p.0 p.2
-    ∙ ap (λ r. r >>= (λ ms. Ok (p.0 ∷ ms))) (push_ok phase (after phase s k p.0) ks p.1 l n p.3 there)
-    ∙ ap (λ xs. Ok (xs ++ n ∷ [])) p.4
+-- a fault tells itself
+tells : {A : Type 0} (e : ElideFault) (r : Result A ElideFault) → r ≡ Err e → TellsFault e r
+tells fault.NoMemory r h = tt
+tells fault.LifetimeUnknown r h = h
+tells fault.AnonymousInDefinition r h = h
+tells fault.ElisionNoSource r h = h
+tells fault.ElisionAmbiguous r h = h
+tells fault.TooManyLifetimes r h = h
+tells fault.BadIdent r h = h
 
-pub push_err : (phase : Phase) (s : Signature) (ls : List Lifetime) (ns : List (MaybeStatic ℕ)) (l : Lifetime) (rest : List Lifetime) (e : ElideFault)
-    → lowered_each phase s ls ≡ Ok ns → lowered phase (after_each phase s ls ns) l ≡ Err e → lowered_each phase s (ls ++ l ∷ rest) ≡ Err e
-push_err phase s [] ns l rest e h g = ap (λ r. r >>= (λ n. lowered_each phase (after phase s l n) rest >>= (λ ms. Ok (n ∷ ms)))) g
-push_err phase s (k ∷ ks) ns l rest e h g =
-    let p = parts phase s k ks ns h in
-    let there : lowered phase (after_each phase (after phase s k p.0) ks p.1) l ≡ Err e = subst (λ xs. lowered phase (after_each phase s (k ∷ ks) xs) l ≡ Err e) (sym p.4) g in
-    first_ok phase s k (ks ++ l ∷ rest) p.0 p.2
-    ∙ ap (λ r. r >>= (λ ms. Ok (p.0 ∷ ms))) (push_err phase (after phase s k p.0) ks p.1 l rest e p.3 there)
+tells_more : (e : ElideFault) (xs ys : List Number) → TellsFault e (all_or_fault xs) → TellsFault e (all_or_fault (xs ++ ys))
+tells_more fault.NoMemory xs ys h = tt
+tells_more fault.LifetimeUnknown xs ys h = err_more xs ys fault.LifetimeUnknown h
+tells_more fault.AnonymousInDefinition xs ys h = err_more xs ys fault.AnonymousInDefinition h
+tells_more fault.ElisionNoSource xs ys h = err_more xs ys fault.ElisionNoSource h
+tells_more fault.ElisionAmbiguous xs ys h = err_more xs ys fault.ElisionAmbiguous h
+tells_more fault.TooManyLifetimes xs ys h = err_more xs ys fault.TooManyLifetimes h
+tells_more fault.BadIdent xs ys h = err_more xs ys fault.BadIdent h
 
-pub push_after : (phase : Phase) (s : Signature) (ls : List Lifetime) (ns : List (MaybeStatic ℕ)) (l : Lifetime) (n : MaybeStatic ℕ)
-    → lowered_each phase s ls ≡ Ok ns → after_each phase s (ls ++ l ∷ []) (ns ++ n ∷ []) ≡ after phase (after_each phase s ls ns) l n
-push_after phase s [] ns l n h = ap (λ xs. after_each phase s (l ∷ []) (xs ++ n ∷ [])) (sym (no_more phase s ns h))
-push_after phase s (k ∷ ks) ns l n h =
-    let p = parts phase s k ks ns h in
-    ap (λ xs. after_each phase s (k ∷ (ks ++ l ∷ [])) (xs ++ n ∷ [])) (sym p.4)
-    ∙ push_after phase (after phase s k p.0) ks p.1 l n p.3
-    ∙ ap (λ xs. after phase (after_each phase s (k ∷ ks) xs) l n) p.4
+-- ---- two lists, one after the other
 
--- a list that a loop goes through: up to its lifetime l, and from there on
+each_more : (phase : Phase) (s : Signature) (ls ks : List Lifetime) → lowered_each phase s (ls ++ ks) ≡ lowered_each phase s ls ++ lowered_each phase (with_uses phase s ls) ks
+each_more (Using role) s ls ks =
+    numbers_more (lifetime_names s.declared) (count_of s) ls ks
+    ∙ ap (λ count. lifetime_numbers (lifetime_names s.declared) (count_of s) ls ++ lifetime_numbers (lifetime_names s.declared) count ks) (sym (count_used s role ls))
+each_more Returning s ls ks = map-append (returned s) ls ks
+each_more Defining s ls ks = map-append (defined s) ls ks
+
+uses_more : (phase : Phase) (s : Signature) (ls ks : List Lifetime) → with_uses phase s (ls ++ ks) ≡ with_uses phase (with_uses phase s ls) ks
+uses_more (Using role) s ls ks =
+    ap {B = Signature} (λ (os : List Occurrence). record { declared = s.declared; occurrences = os; has_self = s.has_self })
+    (ap (λ ps. s.occurrences ++ ps) (map-append (λ l. record { lifetime = l; role = role }) ls ks)
+    ∙ sym (append_assoc s.occurrences (occurring role ls) (occurring role ks)))
+uses_more Returning s ls ks = refl
+uses_more Defining s ls ks = refl
+
+first_is : (phase : Phase) (s : Signature) (l : Lifetime) (ks : List Lifetime) → (rest : List Number) × (lowered_each phase s (l ∷ ks) ≡ lowered phase s l ∷ rest)
+first_is (Using role) s l ks = (lifetime_numbers (lifetime_names s.declared) (one_if_anonymous l (count_of s)) ks, refl)
+first_is Returning s l ks = (map (returned s) ks, refl)
+first_is Defining s l ks = (map (defined s) ks, refl)
+
+only_is : (phase : Phase) (s : Signature) (l : Lifetime) → lowered_each phase s (l ∷ []) ≡ lowered phase s l ∷ []
+only_is (Using role) s l = refl
+only_is Returning s l = refl
+only_is Defining s l = refl
+
+-- a fault of the first of two lists is one of both
+pub fault_more : (phase : Phase) (s : Signature) (ls ks : List Lifetime) (e : ElideFault) → TellsFault e (all_or_fault (lowered_each phase s ls))
+    → TellsFault e (all_or_fault (lowered_each phase s (ls ++ ks)))
+fault_more phase s ls ks e h =
+    subst (λ xs. TellsFault e (all_or_fault xs)) (sym (each_more phase s ls ks)) (tells_more e (lowered_each phase s ls) (lowered_each phase (with_uses phase s ls) ks) h)
+
+-- ---- a list that a loop goes through: up to its lifetime l, and from there on
+
 pub up_to : (ls : List Lifetime) (i : ℕ) (l : Lifetime) → i < length ls → l ≡ get_or ls i l → take (i + 1) ls ≡ take i ls ++ l ∷ []
 up_to ls i l within is = take_more ls i l within ∙ ap (λ k. take i ls ++ k ∷ []) (sym is)
 
@@ -78,62 +101,32 @@ split_at n m less =
     let k : ℕ = m - n - 1 in
     (k, replicate-append-replicate n (suc k) written.Anonymous ∙ ap (λ j. replicate j written.Anonymous) (omega (arith, less)))
 
--- a fault tells itself
-tells : {A : Type 0} (e : ElideFault) (r : Result A ElideFault) → r ≡ Err e → Tells e r
-tells fault.NoMemory r h = tt
-tells fault.LifetimeUnknown r h = h
-tells fault.AnonymousInDefinition r h = h
-tells fault.ElisionNoSource r h = h
-tells fault.ElisionAmbiguous r h = h
-tells fault.TooManyLifetimes r h = h
-tells fault.BadIdent r h = h
-
 -- ---- a loop that lowers a list
 
-module _ (phase : Phase) (s : Signature) (ls : List Lifetime) (ns : List (MaybeStatic ℕ)) (l : Lifetime) (so_far : lowered_each phase s ls ≡ Ok ns) where
+-- nothing was lowered
+pub at_start : (phase : Phase) (s : Signature) (P : Signature → Type 0) → P s → (lowered_each phase s [] ≡ map Ok []) × P (with_uses phase s [])
+at_start (Using role) s P h = (refl, subst P (ap {B = Signature} (λ (os : List Occurrence). record { declared = s.declared; occurrences = os; has_self = s.has_self }) (sym (append-nil s.occurrences))) h)
+at_start Returning s P h = (refl, h)
+at_start Defining s P h = (refl, h)
+
+module _ (phase : Phase) (s : Signature) (ls : List Lifetime) (ns : List (MaybeStatic ℕ)) (l : Lifetime) (so_far : lowered_each phase s ls ≡ map Ok ns) where
   -- goes one lifetime on
-  pub goes_on : (n : MaybeStatic ℕ) (P : Signature → Type 0) → Ok n ≡ lowered phase (after_each phase s ls ns) l → P (after phase (after_each phase s ls ns) l n)
+  pub goes_on : (n : MaybeStatic ℕ) (P : Signature → Type 0) → Ok n ≡ lowered phase (with_uses phase s ls) l → P (with_uses phase (with_uses phase s ls) (l ∷ []))
       → (all : List Lifetime) → ls ++ l ∷ [] ≡ all → (made : List (MaybeStatic ℕ)) → made ≡ ns ++ n ∷ []
-      → (lowered_each phase s all ≡ Ok made) × P (after_each phase s all made)
-  goes_on n P told kept all is made made_is =
-      let both : (lowered_each phase s (ls ++ l ∷ []) ≡ Ok (ns ++ n ∷ [])) × P (after_each phase s (ls ++ l ∷ []) (ns ++ n ∷ [])) =
-      (push_ok phase s ls ns l n so_far (sym told), subst P (sym (push_after phase s ls ns l n so_far)) kept) in
-      subst (λ xs. (lowered_each phase s xs ≡ Ok made) × P (after_each phase s xs made)) is
-      (subst (λ ms. (lowered_each phase s (ls ++ l ∷ []) ≡ Ok ms) × P (after_each phase s (ls ++ l ∷ []) ms)) (sym made_is) both)
+      → (lowered_each phase s all ≡ map Ok made) × P (with_uses phase s all)
+  goes_on n P told kept all is made made_is = (
+    ap (lowered_each phase s) (sym is) ∙ each_more phase s ls (l ∷ []) ∙ ap (λ xs. xs ++ lowered_each phase (with_uses phase s ls) (l ∷ [])) so_far
+        ∙ ap (λ xs. map Ok ns ++ xs) (only_is phase (with_uses phase s ls) l) ∙ ap (λ x. map Ok ns ++ x ∷ []) (sym told)
+        ∙ sym (map-append Ok ns (n ∷ [])) ∙ ap (map Ok) (sym made_is),
+    subst (λ ks. P (with_uses phase s ks)) is (subst P (sym (uses_more phase s ls (l ∷ []))) kept),
+  )
 
   -- or stops there
-  pub stops : (rest : List Lifetime) (e : ElideFault) → Err e ≡ lowered phase (after_each phase s ls ns) l → (all : List Lifetime) → ls ++ l ∷ rest ≡ all
-      → Tells e (lowered_each phase s all)
-  stops rest e told all is = tells e (lowered_each phase s all) (subst (λ xs. lowered_each phase s xs ≡ Err e) is (push_err phase s ls ns l rest e so_far (sym told)))
-
--- ---- a fault of a part of a list
-
-bind_err : {A B : Type 0} (r : Result A ElideFault) (f : A → Result B ElideFault) (e : ElideFault) → (r >>= f) ≡ Err e
-    → (r ≡ Err e) ⊎ ((y : A) × (r ≡ Ok y) × (f y ≡ Err e))
-bind_err (Ok y) f e h = inr (y, refl, h)
-bind_err (Err d) f e h = inl cc
-
-inner_err : (phase : Phase) (s : Signature) (k : Lifetime) (ks : List Lifetime) (m : MaybeStatic ℕ) (e : ElideFault)
-    → (lowered_each phase (after phase s k m) ks >>= (λ ms. Ok (m ∷ ms))) ≡ Err e → lowered_each phase (after phase s k m) ks ≡ Err e
-inner_err phase s k ks m e h =
-    elim (bind_err (lowered_each phase (after phase s k m) ks) (λ ms. Ok (m ∷ ms)) e h) [
-      | inl w ↦ w
-      | inr w ↦ absurd (let ok : Ok (m ∷ w.0) ≡ Err e = w.2 in cc)
-    ]
-
-err_more : (phase : Phase) (s : Signature) (ls rest : List Lifetime) (e : ElideFault) → lowered_each phase s ls ≡ Err e → lowered_each phase s (ls ++ rest) ≡ Err e
-err_more phase s [] rest e h = absurd cc
-err_more phase s (k ∷ ks) rest e h =
-    elim (bind_err (lowered phase s k) (λ m. lowered_each phase (after phase s k m) ks >>= (λ ms. Ok (m ∷ ms))) e h) [
-      | inl w ↦ ap (λ r. r >>= (λ m. lowered_each phase (after phase s k m) (ks ++ rest) >>= (λ ms. Ok (m ∷ ms)))) w
-      | inr w ↦ first_ok phase s k (ks ++ rest) w.0 w.1 ∙ ap (λ r. r >>= (λ ms. Ok (w.0 ∷ ms))) (err_more phase (after phase s k w.0) ks rest e (inner_err phase s k ks w.0 e w.2))
-    ]
-
-pub tells_more : (phase : Phase) (s : Signature) (ls rest : List Lifetime) (e : ElideFault) → Tells e (lowered_each phase s ls) → Tells e (lowered_each phase s (ls ++ rest))
-tells_more phase s ls rest fault.NoMemory h = tt
-tells_more phase s ls rest fault.LifetimeUnknown h = err_more phase s ls rest fault.LifetimeUnknown h
-tells_more phase s ls rest fault.AnonymousInDefinition h = err_more phase s ls rest fault.AnonymousInDefinition h
-tells_more phase s ls rest fault.ElisionNoSource h = err_more phase s ls rest fault.ElisionNoSource h
-tells_more phase s ls rest fault.ElisionAmbiguous h = err_more phase s ls rest fault.ElisionAmbiguous h
-tells_more phase s ls rest fault.TooManyLifetimes h = err_more phase s ls rest fault.TooManyLifetimes h
-tells_more phase s ls rest fault.BadIdent h = err_more phase s ls rest fault.BadIdent h
+  pub stops : (rest : List Lifetime) (e : ElideFault) → Err e ≡ lowered phase (with_uses phase s ls) l → (all : List Lifetime) → ls ++ l ∷ rest ≡ all
+      → TellsFault e (all_or_fault (lowered_each phase s all))
+  stops rest e told all is =
+      let first : (more : List Number) × (lowered_each phase (with_uses phase s ls) (l ∷ rest) ≡ lowered phase (with_uses phase s ls) l ∷ more) = first_is phase (with_uses phase s ls) l rest in
+      tells e (all_or_fault (lowered_each phase s all))
+      (ap (λ ks. all_or_fault (lowered_each phase s ks)) (sym is) ∙ ap all_or_fault (each_more phase s ls (l ∷ rest))
+      ∙ ap (λ xs. all_or_fault (xs ++ lowered_each phase (with_uses phase s ls) (l ∷ rest))) so_far
+      ∙ ap (λ xs. all_or_fault (map Ok ns ++ xs)) first.1 ∙ ap (λ x. all_or_fault (map Ok ns ++ x ∷ first.0)) (sym told) ∙ first_err ns e first.0)

@@ -1,9 +1,7 @@
 pub mod Elision
 pub mod Generics
-pub mod Index
 pub mod Numbering
 pub mod Occurrences
 pub mod Phases
 pub mod Signature
-pub mod Sources
-pub mod Standing
+pub mod inside

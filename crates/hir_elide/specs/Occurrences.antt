@@ -1,60 +1,59 @@
 -- The lifetimes of a signature where they are used, in order. The example throughout is
 -- `impl<'a> Foo<'a> { fn f(&self, x: &'a O, y: &O) -> &O }`: the borrow of the receiver, the `'a` of `Foo<'a>`, the `'a` of x,
 -- and the borrow of y.
-use Rattle.std.specs.Prelude.{ℕ, suc, List, [], ◌∷◌, ◌++◌, Option}
+use Rattle.std.specs.Prelude.{ℕ, Bool, true, false, List, [], ◌∷◌, ◌++◌, length, map, if◌then◌else◌}
 use Rattle.bridge_decl.specs.declared.lifetimes.Lifetime.{Lifetime}
-use Rattle.bridge_decl.specs.declared.lifetimes.Lifetime.TheVariants as written
 use Rattle.bridge_decl.specs.declared.lifetimes.LifetimeEnv.{LifetimeEnv}
-use Rattle.hir_life.specs.declared.maybe_static.MaybeStatic.{MaybeStatic}
+use Rattle.bridge_decl.specs.Lifetimes.{lifetime_names}
+use Rattle.hir_elide.specs.Numbering.{Number, count_after, lifetime_number, one_if_anonymous}
 
 -- where a lifetime is used: it is the receiver's borrow, or one of the generics of `Self`, or stands elsewhere in a parameter
+-- and counts for elision
 pub data Role : Type 0 where
   Borrow : Role
   Own : Role
   Counting : Role
 
--- a lifetime as it is written where it is used, with its number
+-- it is the receiver's borrow
+abbrev pub is_borrow : Role → Bool
+is_borrow Borrow = true
+is_borrow Own = false
+is_borrow Counting = false
+
+-- it is one of the generics of `Self`
+abbrev pub is_own : Role → Bool
+is_own Borrow = false
+is_own Own = true
+is_own Counting = false
+
+-- it counts for elision
+abbrev pub is_counting : Role → Bool
+is_counting Borrow = false
+is_counting Own = false
+is_counting Counting = true
+
+-- a lifetime as it is written where it is used
 pub record Occurrence : Type 0 where
   pub lifetime : Lifetime
   pub role : Role
-  pub number : MaybeStatic ℕ
 
 -- a signature as far as it was gone through: its declared lifetimes; those that are used in its receiver, in its parameters and
--- as the generics of `Self`, in order; and the numbers of these generics, where `Self` was met
+-- as the generics of `Self`, in order; and whether `Self` was met
 pub record Signature : Type 0 where
   pub declared : LifetimeEnv
   pub occurrences : List Occurrence
-  pub own : Option (List (MaybeStatic ℕ))
+  pub has_self : Bool
 
--- one more where the lifetime is anonymous
-abbrev pub one_if_anonymous : Lifetime → ℕ → ℕ
-one_if_anonymous written.Static n = n
-one_if_anonymous (written.Named name) n = n
-one_if_anonymous written.Anonymous n = suc n
+-- how many lifetimes have a number: the names, and the anonymous ones that were used
+abbrev pub count_of : Signature → ℕ
+count_of s = count_after (length s.declared.nodes) (map (λ o. o.lifetime) s.occurrences)
 
--- how many of these are anonymous: two, the borrows of the receiver and of y
-abbrev pub anonymous_in : List Occurrence → ℕ
-anonymous_in [] = 0
-anonymous_in (o ∷ os) = one_if_anonymous o.lifetime (anonymous_in os)
+-- the numbers of those that have such a role, where so many lifetimes have one before them
+abbrev pub numbers_with : (Role → Bool) → List (List ℕ) → ℕ → List Occurrence → List Number
+numbers_with has_role names count [] = []
+numbers_with has_role names count (o ∷ os) =
+    (if has_role o.role then lifetime_number names count o.lifetime ∷ [] else []) ++ numbers_with has_role names (one_if_anonymous o.lifetime count) os
 
--- the number, where the lifetime has the role of the receiver's borrow
-abbrev pub borrow_of : Role → MaybeStatic ℕ → List (MaybeStatic ℕ)
-borrow_of Borrow number = number ∷ []
-borrow_of Own number = []
-borrow_of Counting number = []
-
--- where it counts for elision
-abbrev pub counted_of : Role → MaybeStatic ℕ → List (MaybeStatic ℕ)
-counted_of Borrow number = []
-counted_of Own number = []
-counted_of Counting number = number ∷ []
-
--- the receiver's borrow, if there is one
-abbrev pub borrows : List Occurrence → List (MaybeStatic ℕ)
-borrows [] = []
-borrows (o ∷ os) = borrow_of o.role o.number ++ borrows os
-
--- those that count for elision, in order: the `'a` of x and the borrow of y
-abbrev pub counting : List Occurrence → List (MaybeStatic ℕ)
-counting [] = []
-counting (o ∷ os) = counted_of o.role o.number ++ counting os
+-- the numbers of a signature's lifetimes that have such a role: those that count are 0 and 2, of the `'a` of x and the borrow of y
+abbrev pub used_as : (Role → Bool) → Signature → List Number
+used_as has_role s = numbers_with has_role (lifetime_names s.declared) (length s.declared.nodes) s.occurrences

@@ -1,16 +1,14 @@
 -- How lifetimes are lowered where they are used: in the parameters, among the generics of `Self`, in the return, and in a
 -- definition.
-use Rattle.std.specs.Prelude.{ℕ, [], ◌∷◌, ◌++◌, Result, Ok, Err}
+use Rattle.std.specs.Prelude.{List, ◌++◌, map, Ok, Err}
 use Rattle.bridge_decl.specs.declared.lifetimes.Lifetime.{Lifetime}
 use Rattle.bridge_decl.specs.declared.lifetimes.Lifetime.TheVariants as written
 use Rattle.bridge_decl.specs.Lifetimes.{lifetime_names}
-use Rattle.hir_elide.specs.declared.fault.ElideFault.{ElideFault}
 use Rattle.hir_elide.specs.declared.fault.ElideFault.TheVariants as fault
 use Rattle.hir_elide.specs.Elision.{elided}
-use Rattle.hir_elide.specs.Numbering.{named, number_in}
-use Rattle.hir_elide.specs.Index.{number_of}
-use Rattle.hir_elide.specs.Occurrences.{Role, Signature}
-use Rattle.hir_life.specs.declared.maybe_static.MaybeStatic.{MaybeStatic}
+use Rattle.hir_elide.specs.Numbering.{Number, lifetime_number, lifetime_numbers, name_number}
+use Rattle.bridge_decl.specs.NameIndex.{number_of}
+use Rattle.hir_elide.specs.Occurrences.{Role, Occurrence, Signature, count_of}
 use Rattle.hir_life.specs.declared.maybe_static.MaybeStatic.TheVariants.{Static}
 
 -- where lifetimes are lowered
@@ -23,33 +21,35 @@ pub data Phase : Type 0 where
   Defining : Phase
 
 -- in a return an anonymous lifetime is elided
-abbrev pub returned : Signature → Lifetime → Result (MaybeStatic ℕ) ElideFault
+abbrev pub returned : Signature → Lifetime → Number
 returned s written.Static = Ok Static
-returned s (written.Named name) = named (number_of (lifetime_names s.declared) name)
-returned s written.Anonymous = elided s.occurrences
+returned s (written.Named name) = name_number (number_of (lifetime_names s.declared) name)
+returned s written.Anonymous = elided s
 
 -- in a definition there is none
-abbrev pub defined : Signature → Lifetime → Result (MaybeStatic ℕ) ElideFault
+abbrev pub defined : Signature → Lifetime → Number
 defined s written.Static = Ok Static
-defined s (written.Named name) = named (number_of (lifetime_names s.declared) name)
+defined s (written.Named name) = name_number (number_of (lifetime_names s.declared) name)
 defined s written.Anonymous = Err fault.AnonymousInDefinition
 
--- what a lifetime is lowered to
-abbrev pub lowered : Phase → Signature → Lifetime → Result (MaybeStatic ℕ) ElideFault
-lowered (Using role) s lifetime = number_in s lifetime
-lowered Returning s lifetime = returned s lifetime
-lowered Defining s lifetime = defined s lifetime
+-- what a lifetime is lowered to that is used next
+abbrev pub lowered : Phase → Signature → Lifetime → Number
+lowered (Using role) s l = lifetime_number (lifetime_names s.declared) (count_of s) l
+lowered Returning s l = returned s l
+lowered Defining s l = defined s l
 
--- one more lifetime of a signature is used
-abbrev pub used : Signature → Role → Lifetime → MaybeStatic ℕ → Signature
-used s role lifetime number = record {
-  declared = s.declared;
-  occurrences = s.occurrences ++ record { lifetime = lifetime; role = role; number = number } ∷ [];
-  own = s.own;
-}
+-- what each of these is that are used next, one after another
+abbrev pub lowered_each : Phase → Signature → List Lifetime → List Number
+lowered_each (Using role) s ls = lifetime_numbers (lifetime_names s.declared) (count_of s) ls
+lowered_each Returning s ls = map (returned s) ls
+lowered_each Defining s ls = map (defined s) ls
 
--- the signature after a lifetime was lowered to a number: what a return uses belongs to no parameter
-abbrev pub after : Phase → Signature → Lifetime → MaybeStatic ℕ → Signature
-after (Using role) s lifetime number = used s role lifetime number
-after Returning s lifetime number = s
-after Defining s lifetime number = s
+-- these are used with that role
+abbrev pub occurring : Role → List Lifetime → List Occurrence
+occurring role ls = map (λ l. record { lifetime = l; role = role }) ls
+
+-- the signature after these were used: what a return uses belongs to no parameter, and nor does what a definition uses
+abbrev pub with_uses : Phase → Signature → List Lifetime → Signature
+with_uses (Using role) s ls = record { declared = s.declared; occurrences = s.occurrences ++ occurring role ls; has_self = s.has_self }
+with_uses Returning s ls = s
+with_uses Defining s ls = s

@@ -1,14 +1,13 @@
 //! The lifetimes of a definition's fields.
 
-ghost use Rattle.std.specs.Prelude.{◌≡◌, ◌≤◌, IfOk, length};
+ghost use Rattle.std.specs.Prelude.{◌≡◌};
 ghost use Rattle.bridge_decl.specs.Lifetimes.{IsSoundEnvironment, lifetime_names};
-ghost use Rattle.hir_elide.specs.Index.{number_of};
+ghost use Rattle.bridge_decl.specs.NameIndex.{number_of};
 ghost use Rattle.hir_elide.specs.Phases.{Defining};
 ghost use Rattle.hir_elide.specs.Signature.{begun};
 
 use crate::fault::ElideFault;
-use crate::generics::lower_each;
-use crate::lowerer::{LifetimeLowerer, LowerLifetime};
+use crate::lowerer::{LifetimeLowerer, LowerLifetime, StandsFor};
 use crate::numbering::within_most;
 use bridge_decl::{Lifetime as Written, LifetimeEnv, Text};
 use hir_life::{Lifetime, Lifetimes, MaybeStatic};
@@ -32,23 +31,23 @@ pub struct DefinitionLowerer<'a> {
     env: &'a LifetimeEnv,
 }
 
-impl<'a> DefinitionLowerer<'a> {
-    ghost use Rattle.hir_elide.specs.Standing.{InDefinition};
+impl StandsFor for DefinitionLowerer<'_> {
+    ghost use Rattle.hir_elide.specs.inside.Standing.{InDefinition};
 
+    ghost stands = { λ it s. InDefinition it s };
+}
+
+impl<'a> DefinitionLowerer<'a> {
     /// The definition that declares these lifetimes. No memory is taken, so a name is looked for among at most 4,095.
     pub fn new(env: &'a LifetimeEnv) -> DefinitionLowerer<'a>
         requires { IsSoundEnvironment env.now }
-        ensures { InDefinition result (begun env.entry.now) }
+        ensures { ⟦<DefinitionLowerer<'a> as StandsFor>⟧.stands result (begun env.entry.now) }
     {
         DefinitionLowerer { env }
     }
 }
 
 impl LowerLifetime for DefinitionLowerer<'_> {
-    ghost use Rattle.hir_elide.specs.Standing.{InDefinition};
-
-    ghost stands = { λ it s. InDefinition it s };
-
     ghost phase = { Defining };
 
     fn lower_lifetime(&mut self, lifetime: &Written) -> Result<MaybeStatic<Lifetime>, ElideFault> {
@@ -64,15 +63,6 @@ impl LowerLifetime for DefinitionLowerer<'_> {
 }
 
 impl LifetimeLowerer for DefinitionLowerer<'_> {
-    fn lower_lifetimes(
-        &mut self,
-        alloc: Global,
-        lifetimes: &[Written],
-        type_generics: &LifetimeEnv,
-    ) -> Result<Lifetimes, ElideFault> {
-        lower_each(alloc, self, lifetimes, type_generics.nodes.len())
-    }
-
     fn lower_generics(
         &mut self,
         alloc: Global,

@@ -1,10 +1,11 @@
 //! Lists of lifetimes, lowered one after another.
 
-ghost use Rattle.std.specs.Prelude.{◌≡◌, ◌≤◌, ℕ, List, Ok, IfOk, length, replicate, ◌++◌};
+ghost use Rattle.std.specs.Prelude.{◌≡◌, ◌≤◌, List, Ok, IfOk, IfErr, OnOk, length, map, replicate, ◌++◌};
 ghost use Rattle.bridge_decl.specs.declared.lifetimes.Lifetime.{Lifetime as Used};
 ghost use Rattle.bridge_decl.specs.declared.lifetimes.Lifetime.TheVariants as used_as;
-ghost use Rattle.hir_elide.specs.Generics.{Gives, filled, lowered_each, after_each};
+ghost use Rattle.hir_elide.specs.Generics.{IsUnlessNoMemory, TellsFault, all_or_fault, filled};
 ghost use Rattle.hir_elide.specs.Occurrences.{Signature};
+ghost use Rattle.hir_elide.specs.Phases.{lowered_each, with_uses};
 
 use crate::fault::ElideFault;
 use crate::lowerer::LowerLifetime;
@@ -18,9 +19,11 @@ fn lower_written<L: LowerLifetime>(
     lowerer: &mut L,
     lifetimes: &[Written],
 ) -> Result<Lifetimes, ElideFault>
-    ensures told { (s : Signature) → L.stands lowerer.old s → Gives result (lowered_each L.phase s lifetimes.now) }
-    ensures kept { (s : Signature) → L.stands lowerer.old s
-        → IfOk result (λ numbers. L.stands lowerer.new (after_each L.phase s lifetimes.now numbers)) }
+    ensures numbers { (s : Signature) → L.stands lowerer.old s
+        → IfOk result (λ numbers. lowered_each L.phase s lifetimes.now ≡ map Ok numbers) }
+    ensures kept { (s : Signature) → L.stands lowerer.old s → OnOk result (L.stands lowerer.new (with_uses L.phase s lifetimes.now)) }
+    ensures fault { (s : Signature) → L.stands lowerer.old s
+        → IfErr result (λ fault. TellsFault fault (all_or_fault (lowered_each L.phase s lifetimes.now))) }
 {
     let mut lowered = Lifetimes::new(alloc);
     for lifetime in lifetimes {
@@ -36,11 +39,12 @@ fn lower_unwritten<L: LowerLifetime>(
     written: Lifetimes,
     count: usize,
 ) -> Result<Lifetimes, ElideFault>
-    ensures told { (s : Signature) (ls : List Used) → L.stands lowerer.old (after_each L.phase s ls written)
-        → lowered_each L.phase s ls ≡ Ok written → Gives result (lowered_each L.phase s (ls ++ replicate count used_as.Anonymous)) }
-    ensures kept { (s : Signature) (ls : List Used) → L.stands lowerer.old (after_each L.phase s ls written)
-        → lowered_each L.phase s ls ≡ Ok written
-        → IfOk result (λ numbers. L.stands lowerer.new (after_each L.phase s (ls ++ replicate count used_as.Anonymous) numbers)) }
+    ensures numbers { (s : Signature) (ls : List Used) → L.stands lowerer.old (with_uses L.phase s ls) → lowered_each L.phase s ls ≡ map Ok written
+        → IfOk result (λ numbers. lowered_each L.phase s (ls ++ replicate count used_as.Anonymous) ≡ map Ok numbers) }
+    ensures kept { (s : Signature) (ls : List Used) → L.stands lowerer.old (with_uses L.phase s ls) → lowered_each L.phase s ls ≡ map Ok written
+        → OnOk result (L.stands lowerer.new (with_uses L.phase s (ls ++ replicate count used_as.Anonymous))) }
+    ensures fault { (s : Signature) (ls : List Used) → L.stands lowerer.old (with_uses L.phase s ls) → lowered_each L.phase s ls ≡ map Ok written
+        → IfErr result (λ fault. TellsFault fault (all_or_fault (lowered_each L.phase s (ls ++ replicate count used_as.Anonymous)))) }
 {
     let mut lowered = written;
     for _ in 0..count {
@@ -59,10 +63,13 @@ pub fn lower_each<L: LowerLifetime>(
 ) -> Result<Lifetimes, ElideFault>
     requires { length lifetimes.now ≤ count }
     ensures told { (s : Signature) → L.stands lowerer.old s
-        → Gives result (lowered_each L.phase s (filled lifetimes.now count)) }
+        → IsUnlessNoMemory result (all_or_fault (lowered_each L.phase s (filled lifetimes.now count))) }
     ensures kept { (s : Signature) → L.stands lowerer.old s
-        → IfOk result (λ numbers. L.stands lowerer.new (after_each L.phase s (filled lifetimes.now count) numbers)) }
+        → OnOk result (L.stands lowerer.new (with_uses L.phase s (filled lifetimes.now count))) }
+    ensures numbers { (s : Signature) → L.stands lowerer.old s
+        → IfOk result (λ numbers. lowered_each L.phase s (filled lifetimes.now count) ≡ map Ok numbers) }
 {
     let written = lower_written(alloc, lowerer, lifetimes)?;
-    lower_unwritten(lowerer, written, count - lifetimes.len())
+    let lowered = lower_unwritten(lowerer, written, count - lifetimes.len())?;
+    Ok(lowered)
 }

@@ -1,30 +1,34 @@
 //! What lowers lifetimes, in whatever place they are used.
 
-ghost use Rattle.std.specs.Prelude.{◌≡◌, ◌≤◌, IfOk, length};
-ghost use Rattle.hir_elide.specs.Generics.{Gives, filled, lowered_generics, after_generics, lowered_each, after_each};
+ghost use Rattle.std.specs.Prelude.{◌≡◌, ◌∷◌, [], ◌≤◌, IfOk, OnOk, length};
+ghost use Rattle.hir_elide.specs.Generics.{IsUnlessNoMemory, all_or_fault, filled, lowered_generics, with_generics};
 ghost use Rattle.hir_elide.specs.Occurrences.{Signature};
-ghost use Rattle.hir_elide.specs.Phases.{Phase, lowered, after};
+ghost use Rattle.hir_elide.specs.Phases.{Phase, lowered, lowered_each, with_uses};
 
 use crate::fault::ElideFault;
+use crate::generics::lower_each;
 use bridge_decl::{Lifetime as Written, LifetimeEnv};
 use hir_life::{Lifetime, Lifetimes, MaybeStatic};
 use std::alloc::Global;
 
+/// What stands for a signature, or for a definition, as far as it was gone through.
+pub trait StandsFor {
+    /// What was gone through so far.
+    ghost stands: { Self → Signature → Type 0 };
+}
+
 /// Lowers lifetimes in the order in which they are used: each to its number, or to `'static`.
 ///
 /// After a fault a lowerer is let go: what it would answer then isn't said.
-pub trait LowerLifetime {
-    /// What was gone through so far.
-    ghost stands: { Self → Signature → Type 0 };
-
+pub trait LowerLifetime: StandsFor {
     /// Where the lifetimes are used.
     ghost phase: { Phase };
 
     /// The lifetime that is used next.
     fn lower_lifetime(&mut self, lifetime: &Written) -> Result<MaybeStatic<Lifetime>, ElideFault>
-        ensures told { (s : Signature) → stands self.old s → result ≡ lowered phase s lifetime.now }
-        ensures kept { (s : Signature) → stands self.old s
-            → IfOk result (λ number. stands self.new (after phase s lifetime.now number)) };
+        ensures told { (s : Signature) → Self.stands self.old s → result ≡ lowered phase s lifetime.now }
+        ensures kept { (s : Signature) → Self.stands self.old s
+            → OnOk result (Self.stands self.new (with_uses phase s (lifetime.now ∷ []))) };
 }
 
 /// Lowers the generics of paths too.
@@ -39,9 +43,12 @@ pub trait LifetimeLowerer: LowerLifetime {
     ) -> Result<Lifetimes, ElideFault>
         requires { length lifetimes.now ≤ length type_generics.now.nodes }
         ensures told { (s : Signature) → Self.stands self.old s
-            → Gives result (lowered_each Self.phase s (filled lifetimes.now (length type_generics.now.nodes))) }
-        ensures kept { (s : Signature) → Self.stands self.old s → IfOk result (λ numbers.
-            Self.stands self.new (after_each Self.phase s (filled lifetimes.now (length type_generics.now.nodes)) numbers)) };
+            → IsUnlessNoMemory result (all_or_fault (lowered_each Self.phase s (filled lifetimes.now (length type_generics.now.nodes)))) }
+        ensures kept { (s : Signature) → Self.stands self.old s
+            → OnOk result (Self.stands self.new (with_uses Self.phase s (filled lifetimes.now (length type_generics.now.nodes)))) }
+    {
+        lower_each(alloc, self, lifetimes, type_generics.nodes.len())
+    }
 
     /// The same, where the path may be that of `Self`: in a signature `Self` has the same lifetimes wherever it stands, and
     /// they don't count for elision.
@@ -54,7 +61,7 @@ pub trait LifetimeLowerer: LowerLifetime {
     ) -> Result<Lifetimes, ElideFault>
         requires { length lifetimes.now ≤ length type_generics.now.nodes }
         ensures told { (s : Signature) → Self.stands self.old s
-            → Gives result (lowered_generics Self.phase is_self s (filled lifetimes.now (length type_generics.now.nodes))) }
-        ensures kept { (s : Signature) → Self.stands self.old s → IfOk result (λ numbers.
-            Self.stands self.new (after_generics Self.phase is_self s (filled lifetimes.now (length type_generics.now.nodes)) numbers)) };
+            → IsUnlessNoMemory result (all_or_fault (lowered_generics Self.phase is_self s (filled lifetimes.now (length type_generics.now.nodes)))) }
+        ensures kept { (s : Signature) → Self.stands self.old s
+            → OnOk result (Self.stands self.new (with_generics Self.phase is_self s (filled lifetimes.now (length type_generics.now.nodes)))) };
 }

@@ -1,21 +1,19 @@
 //! Numbers of lifetimes, as far as a signature was gone through.
 
-ghost use Rattle.std.specs.Prelude.{◌≡◌, ◌≤◌, IfOk, length};
+ghost use Rattle.std.specs.Prelude.{◌≡◌, ◌≤◌, ◌∷◌, [], Ok, IfOk, OnOk, length, map};
 ghost use Rattle.bridge_decl.specs.Lifetimes.{lifetime_names};
+ghost use Rattle.bridge_decl.specs.NameIndex.{number_of};
 ghost use Rattle.bridge_decl.specs.declared.lifetimes.Lifetime.TheVariants as written;
-ghost use Rattle.hir_elide.specs.Generics.{Gives, filled, own_or_new, after_own, lowered_each, after_each, met};
-ghost use Rattle.hir_elide.specs.Index.{number_of};
-ghost use Rattle.hir_elide.specs.Numbering.{count_of, named, number_in, within_most};
-ghost use Rattle.hir_elide.specs.Occurrences.{Role, Own, Signature};
-ghost use Rattle.hir_elide.specs.Phases.{Using, used};
+ghost use Rattle.hir_elide.specs.Generics.{IsUnlessNoMemory, all_or_fault, filled, own_numbers, with_own};
+ghost use Rattle.hir_elide.specs.Numbering.{lifetime_number, name_number, within_most};
+ghost use Rattle.hir_elide.specs.Occurrences.{Role, Own, Signature, count_of};
+ghost use Rattle.hir_elide.specs.Phases.{Using, lowered_each, with_uses};
 
-use crate::counting::CountedLifetimes;
 use crate::fault::ElideFault;
 use crate::generics::lower_each;
-use crate::index::NameIndex;
-use crate::lowerer::LowerLifetime;
-use bridge_decl::{Lifetime as Written, LifetimeEnv, Text};
-use hir_life::{Lifetime, Lifetimes, MaybeStatic};
+use crate::lowerer::{LowerLifetime, StandsFor};
+use bridge_decl::{Lifetime as Written, LifetimeEnv, NameIndex, Text};
+use hir_life::{self, Lifetime, Lifetimes, MaybeStatic};
 use std::alloc::Global;
 
 /// The most lifetimes that a signature or a definition may have.
@@ -36,19 +34,19 @@ pub fn within_most(number: usize) -> Result<MaybeStatic<Lifetime>, ElideFault>
 #[derive(Drop)]
 pub struct Numbering {
     /// The places of the declared names.
-    pub names: NameIndex,
+    pub names: NameIndex<usize>,
     /// The lifetimes that have a number.
-    pub lifetimes: CountedLifetimes,
+    pub lifetimes: hir_life::LifetimeEnv,
     /// The generics of `Self`, where it was met.
     pub own: Option<Lifetimes>,
 }
 
 impl Numbering {
-    ghost use Rattle.hir_elide.specs.Standing.{Numbers};
+    ghost use Rattle.hir_elide.specs.inside.Standing.{Numbers};
 
     /// The number of a declared name.
     pub fn named(&self, name: &Text) -> Result<MaybeStatic<Lifetime>, ElideFault>
-        ensures { (s : Signature) → Numbers self.now s → result ≡ named (number_of (lifetime_names s.declared) name.now) }
+        ensures { (s : Signature) → Numbers self.now s → result ≡ name_number (number_of (lifetime_names s.declared) name.now) }
     {
         match self.names.get(name) {
             Some(place) => within_most(*place),
@@ -60,21 +58,22 @@ impl Numbering {
     fn anonymous(&mut self) -> Result<MaybeStatic<Lifetime>, ElideFault>
         ensures told { (s : Signature) → Numbers self.old s → result ≡ within_most (count_of s) }
         ensures kept { (s : Signature) (role : Role) → Numbers self.old s
-            → IfOk result (λ number. Numbers self.new (used s role written.Anonymous number)) }
+            → OnOk result (Numbers self.new (with_uses (Using role) s (written.Anonymous ∷ []))) }
+        ensures own { self.new.own ≡ self.old.own }
     {
-        let number = self.lifetimes.count();
-        if number >= MOST {
+        if self.lifetimes.num_lifetimes() >= MOST {
             return Err(ElideFault::TooManyLifetimes);
         }
-        self.lifetimes.add_anonymous();
-        Ok(MaybeStatic::NonStatic(Lifetime::new(number)))
+        Ok(MaybeStatic::NonStatic(self.lifetimes.add_anonymous()))
     }
 
     /// The number of a lifetime that is used next.
     pub fn number(&mut self, lifetime: &Written) -> Result<MaybeStatic<Lifetime>, ElideFault>
-        ensures told { (s : Signature) → Numbers self.old s → result ≡ number_in s lifetime.now }
+        ensures told { (s : Signature) → Numbers self.old s
+            → result ≡ lifetime_number (lifetime_names s.declared) (count_of s) lifetime.now }
         ensures kept { (s : Signature) (role : Role) → Numbers self.old s
-            → IfOk result (λ number. Numbers self.new (used s role lifetime.now number)) }
+            → OnOk result (Numbers self.new (with_uses (Using role) s (lifetime.now ∷ []))) }
+        ensures own { self.new.own ≡ self.old.own }
     {
         match lifetime {
             Written::Static => Ok(MaybeStatic::Static),
@@ -84,12 +83,14 @@ impl Numbering {
     }
 }
 
-/// The generics of `Self` where it is met first.
-impl LowerLifetime for Numbering {
-    ghost use Rattle.hir_elide.specs.Standing.{Numbers};
+impl StandsFor for Numbering {
+    ghost use Rattle.hir_elide.specs.inside.Standing.{Numbers};
 
     ghost stands = { λ it s. Numbers it s };
+}
 
+/// The generics of `Self` where it is met first.
+impl LowerLifetime for Numbering {
     ghost phase = { Using Own };
 
     fn lower_lifetime(&mut self, lifetime: &Written) -> Result<MaybeStatic<Lifetime>, ElideFault> {
@@ -98,7 +99,7 @@ impl LowerLifetime for Numbering {
 }
 
 impl Numbering {
-    ghost use Rattle.hir_elide.specs.Standing.{Numbers};
+    ghost use Rattle.hir_elide.specs.inside.Standing.{IsOwn, Numbers};
 
     /// The generics of `Self`: those of its first occurrence, where it was met, and else these.
     pub fn lower_own(
@@ -108,10 +109,12 @@ impl Numbering {
         type_generics: &LifetimeEnv,
     ) -> Result<Lifetimes, ElideFault>
         requires { length lifetimes.now ≤ length type_generics.now.nodes }
-        ensures told { (s : Signature) → Numbers self.old s
-            → Gives result (own_or_new s.own s (filled lifetimes.now (length type_generics.now.nodes))) }
-        ensures kept { (s : Signature) → Numbers self.old s → IfOk result (λ numbers.
-            Numbers self.new (after_own s.own s (filled lifetimes.now (length type_generics.now.nodes)) numbers)) }
+        ensures told { (s : Signature) → Numbers self.old s → IsOwn self.old.own s → IsUnlessNoMemory result
+            (all_or_fault (own_numbers s.has_self s (filled lifetimes.now (length type_generics.now.nodes)))) }
+        ensures kept { (s : Signature) → Numbers self.old s → IsOwn self.old.own s
+            → OnOk result (Numbers self.new (with_own s.has_self s (filled lifetimes.now (length type_generics.now.nodes)))) }
+        ensures own { (s : Signature) → Numbers self.old s → IsOwn self.old.own s
+            → OnOk result (IsOwn self.new.own (with_own s.has_self s (filled lifetimes.now (length type_generics.now.nodes)))) }
     {
         match &self.own {
             Some(own) => Ok(own.try_clone(alloc)?),
@@ -127,10 +130,12 @@ impl Numbering {
         type_generics: &LifetimeEnv,
     ) -> Result<Lifetimes, ElideFault>
         requires { length lifetimes.now ≤ length type_generics.now.nodes }
-        ensures told { (s : Signature) → Numbers self.old s
-            → Gives result (lowered_each (Using Own) s (filled lifetimes.now (length type_generics.now.nodes))) }
-        ensures kept { (s : Signature) → Numbers self.old s → IfOk result (λ numbers. Numbers self.new
-            (met (after_each (Using Own) s (filled lifetimes.now (length type_generics.now.nodes)) numbers) numbers)) }
+        ensures told { (s : Signature) → Numbers self.old s → IsUnlessNoMemory result
+            (all_or_fault (lowered_each (Using Own) s (filled lifetimes.now (length type_generics.now.nodes)))) }
+        ensures kept { (s : Signature) → Numbers self.old s
+            → OnOk result (Numbers self.new (with_uses (Using Own) s (filled lifetimes.now (length type_generics.now.nodes)))) }
+        ensures own { (s : Signature) → Numbers self.old s → IfOk result (λ numbers.
+            (self.new.own ≡ Some numbers) × (lowered_each (Using Own) s (filled lifetimes.now (length type_generics.now.nodes)) ≡ map Ok numbers)) }
     {
         let own = lower_each(alloc, self, lifetimes, type_generics.nodes.len())?;
         let copy = own.try_clone(alloc)?;

@@ -1,12 +1,10 @@
 //! The second phase of a signature: the lifetimes of its receiver's type and of its parameters.
 
-ghost use Rattle.std.specs.Prelude.{◌≡◌, ◌≤◌, IfOk, length};
 ghost use Rattle.hir_elide.specs.Occurrences.{Counting, Signature};
 ghost use Rattle.hir_elide.specs.Phases.{Using};
 
 use crate::fault::ElideFault;
-use crate::generics::lower_each;
-use crate::lowerer::{LifetimeLowerer, LowerLifetime};
+use crate::lowerer::{LifetimeLowerer, LowerLifetime, StandsFor};
 use crate::numbering::Numbering;
 use crate::returns::ReturnLifetimeLowerer;
 use crate::source::ElisionSource;
@@ -21,12 +19,16 @@ pub struct ParamLifetimeLowerer {
     pub(crate) base: Numbering,
 }
 
-impl ParamLifetimeLowerer {
-    ghost use Rattle.hir_elide.specs.Standing.{AtParameters, AtReturn};
+impl StandsFor for ParamLifetimeLowerer {
+    ghost use Rattle.hir_elide.specs.inside.Standing.{AtParameters};
 
+    ghost stands = { λ it s. AtParameters it s };
+}
+
+impl ParamLifetimeLowerer {
     /// All parameters were gone through, and the return comes next.
     pub fn into_return_ltl(self) -> ReturnLifetimeLowerer
-        ensures { (s : Signature) → AtParameters self s → AtReturn result s }
+        ensures { (s : Signature) → ⟦<ParamLifetimeLowerer as StandsFor>⟧.stands self s → ⟦<ReturnLifetimeLowerer as StandsFor>⟧.stands result s }
     {
         ReturnLifetimeLowerer {
             source: self.source,
@@ -36,10 +38,6 @@ impl ParamLifetimeLowerer {
 }
 
 impl LowerLifetime for ParamLifetimeLowerer {
-    ghost use Rattle.hir_elide.specs.Standing.{AtParameters};
-
-    ghost stands = { λ it s. AtParameters it s };
-
     ghost phase = { Using Counting };
 
     fn lower_lifetime(&mut self, lifetime: &Written) -> Result<MaybeStatic<Lifetime>, ElideFault> {
@@ -50,15 +48,6 @@ impl LowerLifetime for ParamLifetimeLowerer {
 }
 
 impl LifetimeLowerer for ParamLifetimeLowerer {
-    fn lower_lifetimes(
-        &mut self,
-        alloc: Global,
-        lifetimes: &[Written],
-        type_generics: &LifetimeEnv,
-    ) -> Result<Lifetimes, ElideFault> {
-        lower_each(alloc, self, lifetimes, type_generics.nodes.len())
-    }
-
     fn lower_generics(
         &mut self,
         alloc: Global,

@@ -1,13 +1,12 @@
 //! The third phase of a signature: the lifetimes of its return.
 
-ghost use Rattle.std.specs.Prelude.{◌≡◌, ◌≤◌, IfOk, length};
+ghost use Rattle.std.specs.Prelude.{◌≡◌};
 ghost use Rattle.hir_elide.specs.Occurrences.{Signature};
 ghost use Rattle.hir_elide.specs.Phases.{Returning};
 ghost use Rattle.hir_elide.specs.Signature.{environment_of};
 
 use crate::fault::ElideFault;
-use crate::generics::lower_each;
-use crate::lowerer::{LifetimeLowerer, LowerLifetime};
+use crate::lowerer::{LifetimeLowerer, LowerLifetime, StandsFor};
 use crate::numbering::Numbering;
 use crate::source::ElisionSource;
 use bridge_decl::{Lifetime as Written, LifetimeEnv};
@@ -22,22 +21,22 @@ pub struct ReturnLifetimeLowerer {
     pub(crate) base: Numbering,
 }
 
-impl ReturnLifetimeLowerer {
-    ghost use Rattle.hir_elide.specs.Standing.{AtReturn};
+impl StandsFor for ReturnLifetimeLowerer {
+    ghost use Rattle.hir_elide.specs.inside.Standing.{AtReturn};
 
+    ghost stands = { λ it s. AtReturn it s };
+}
+
+impl ReturnLifetimeLowerer {
     /// The lifetimes of the signature: those that are declared, and the count of all with the anonymous ones.
     pub fn finish(self) -> hir_life::LifetimeEnv
-        ensures { (s : Signature) → AtReturn self s → result ≡ environment_of s }
+        ensures { (s : Signature) → ⟦<ReturnLifetimeLowerer as StandsFor>⟧.stands self s → result ≡ environment_of s }
     {
-        self.base.lifetimes.into_environment()
+        self.base.lifetimes
     }
 }
 
 impl LowerLifetime for ReturnLifetimeLowerer {
-    ghost use Rattle.hir_elide.specs.Standing.{AtReturn};
-
-    ghost stands = { λ it s. AtReturn it s };
-
     ghost phase = { Returning };
 
     fn lower_lifetime(&mut self, lifetime: &Written) -> Result<MaybeStatic<Lifetime>, ElideFault> {
@@ -50,15 +49,6 @@ impl LowerLifetime for ReturnLifetimeLowerer {
 }
 
 impl LifetimeLowerer for ReturnLifetimeLowerer {
-    fn lower_lifetimes(
-        &mut self,
-        alloc: Global,
-        lifetimes: &[Written],
-        type_generics: &LifetimeEnv,
-    ) -> Result<Lifetimes, ElideFault> {
-        lower_each(alloc, self, lifetimes, type_generics.nodes.len())
-    }
-
     fn lower_generics(
         &mut self,
         alloc: Global,

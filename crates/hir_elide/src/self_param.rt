@@ -1,21 +1,20 @@
 //! The first phase of a signature: the borrow of its receiver.
 
-ghost use Rattle.std.specs.Prelude.{◌≡◌, ◌<◌, ◌↔◌, Ok, Err, IfOk, IfErr, OnOk, IsErrOf, length};
+ghost use Rattle.std.specs.Prelude.{◌≡◌, ◌<◌, ◌↔◌, ◌∷◌, [], Ok, Err, IfOk, IfErr, OnOk, IsErrOf, length};
 ghost use Rattle.bridge_decl.specs.Lifetimes.{IsSoundEnvironment};
-ghost use Rattle.hir_elide.specs.Numbering.{most, number_in};
+ghost use Rattle.hir_life.specs.Declarations.{HasIdents};
+ghost use Rattle.hir_elide.specs.Numbering.{most};
 ghost use Rattle.hir_elide.specs.Occurrences.{Borrow, Signature};
-ghost use Rattle.hir_elide.specs.Phases.{used};
-ghost use Rattle.hir_elide.specs.Signature.{begun, HasIdents, IsOfNames};
+ghost use Rattle.hir_elide.specs.Phases.{Using, lowered, with_uses};
+ghost use Rattle.hir_elide.specs.Signature.{begun, IsOfNames};
 
-use crate::counting::CountedLifetimes;
-use crate::environment::bounded_lifetimes;
 use crate::fault::ElideFault;
-use crate::index::index_lifetimes;
+use crate::lowerer::StandsFor;
 use crate::numbering::{MOST, Numbering};
 use crate::params::ParamLifetimeLowerer;
 use crate::source::ElisionSource;
-use bridge_decl::{IdentFault, Lifetime as Written, LifetimeEnv};
-use hir_life::{Lifetime, MaybeStatic};
+use bridge_decl::{IdentFault, Lifetime as Written, LifetimeEnv, index_lifetimes};
+use hir_life::{self, Lifetime, MaybeStatic};
 use std::alloc::Global;
 
 /// A signature whose receiver comes next.
@@ -24,14 +23,18 @@ pub struct SelfParamLifetimeLowerer {
     base: Numbering,
 }
 
-impl SelfParamLifetimeLowerer {
-    ghost use Rattle.hir_elide.specs.Standing.{AtParameters, AtReceiver};
+impl StandsFor for SelfParamLifetimeLowerer {
+    ghost use Rattle.hir_elide.specs.inside.Standing.{AtReceiver};
 
+    ghost stands = { λ it s. AtReceiver it s };
+}
+
+impl SelfParamLifetimeLowerer {
     /// The signature that declares these lifetimes. `TooManyLifetimes` comes exactly where there are more than 4,095, and
     /// else `BadIdent` only where a name isn't an identifier.
     pub fn new(alloc: Global, env: &LifetimeEnv) -> Result<Self, ElideFault>
         requires { IsSoundEnvironment env.now }
-        ensures begins { IfOk result (λ lowerer. AtReceiver lowerer (begun env.now)) }
+        ensures begins { IfOk result (λ lowerer. ⟦<SelfParamLifetimeLowerer as StandsFor>⟧.stands lowerer (begun env.now)) }
         ensures idents { OnOk result (HasIdents env.now) }
         ensures too_many { IsErrOf result ElideFault.TooManyLifetimes ↔ (most < length env.now.nodes) }
         ensures bad { IsErrOf result ElideFault.BadIdent → ¬ (HasIdents env.now) }
@@ -40,8 +43,8 @@ impl SelfParamLifetimeLowerer {
         if env.nodes.len() > MOST {
             return Err(ElideFault::TooManyLifetimes);
         }
-        let nodes = match bounded_lifetimes(alloc, env) {
-            Ok(nodes) => nodes,
+        let lifetimes = match hir_life::LifetimeEnv::of_declared(alloc, env) {
+            Ok(lifetimes) => lifetimes,
             Err(IdentFault::Bad) => return Err(ElideFault::BadIdent),
             Err(IdentFault::NoMemory) => return Err(ElideFault::NoMemory),
         };
@@ -49,7 +52,7 @@ impl SelfParamLifetimeLowerer {
         Ok(SelfParamLifetimeLowerer {
             base: Numbering {
                 names,
-                lifetimes: CountedLifetimes::new(nodes),
+                lifetimes,
                 own: None,
             },
         })
@@ -60,10 +63,12 @@ impl SelfParamLifetimeLowerer {
         self,
         lifetime: &Written,
     ) -> Result<(MaybeStatic<Lifetime>, ParamLifetimeLowerer), ElideFault>
-        ensures told { (s : Signature) → AtReceiver self s → IfOk result (λ both. number_in s lifetime.now ≡ Ok both.0) }
-        ensures fault { (s : Signature) → AtReceiver self s → IfErr result (λ fault. number_in s lifetime.now ≡ Err fault) }
-        ensures kept { (s : Signature) → AtReceiver self s
-            → IfOk result (λ both. AtParameters both.1 (used s Borrow lifetime.now both.0)) }
+        ensures told { (s : Signature) → ⟦<SelfParamLifetimeLowerer as StandsFor>⟧.stands self s
+            → IfOk result (λ both. lowered (Using Borrow) s lifetime.now ≡ Ok both.0) }
+        ensures fault { (s : Signature) → ⟦<SelfParamLifetimeLowerer as StandsFor>⟧.stands self s
+            → IfErr result (λ fault. lowered (Using Borrow) s lifetime.now ≡ Err fault) }
+        ensures kept { (s : Signature) → ⟦<SelfParamLifetimeLowerer as StandsFor>⟧.stands self s
+            → IfOk result (λ both. ⟦<ParamLifetimeLowerer as StandsFor>⟧.stands both.1 (with_uses (Using Borrow) s (lifetime.now ∷ []))) }
     {
         let mut base = self.base;
         let number = base.number(lifetime)?;
@@ -73,7 +78,7 @@ impl SelfParamLifetimeLowerer {
 
     /// There is no receiver, or it isn't borrowed.
     pub fn no_self_ref(self) -> ParamLifetimeLowerer
-        ensures { (s : Signature) → AtReceiver self s → AtParameters result s }
+        ensures { (s : Signature) → ⟦<SelfParamLifetimeLowerer as StandsFor>⟧.stands self s → ⟦<ParamLifetimeLowerer as StandsFor>⟧.stands result s }
     {
         ParamLifetimeLowerer {
             source: ElisionSource::NoBorrows,

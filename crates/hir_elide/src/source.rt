@@ -1,8 +1,6 @@
 //! What a lifetime stands for that a return leaves out.
 
-ghost use Rattle.std.specs.Prelude.{◌≡◌, List, ℕ, [], ◌∷◌, ◌++◌};
-ghost use Rattle.hir_elide.specs.Sources.{chosen, elided_from};
-ghost use Rattle.hir_life.specs.declared.maybe_static.MaybeStatic.{MaybeStatic as Written};
+ghost use Rattle.std.specs.Prelude.{◌≡◌};
 
 use crate::fault::ElideFault;
 use hir_life::{Lifetime, MaybeStatic};
@@ -21,17 +19,18 @@ pub enum ElisionSource {
 }
 
 impl ElisionSource {
+    ghost use Rattle.hir_elide.specs.inside.Sources.{elided_from, with_counting};
+
     /// The source where the receiver has that borrow.
     pub fn of_receiver(borrow: &MaybeStatic<Lifetime>) -> ElisionSource
-        ensures { result ≡ chosen (borrow.now ∷ []) [] }
+        ensures { result ≡ ElisionSource.SelfParam borrow.now }
     {
         ElisionSource::SelfParam(*borrow)
     }
 
     /// The source with one more lifetime in the parameters.
     pub fn with(&self, lifetime: &MaybeStatic<Lifetime>) -> ElisionSource
-        ensures { (borrows counting : List (Written ℕ)) → self.now ≡ chosen borrows counting
-            → result ≡ chosen borrows (counting ++ lifetime.now ∷ []) }
+        ensures { result ≡ with_counting self.now lifetime.now }
     {
         match self {
             ElisionSource::NoBorrows => ElisionSource::OneParam(*lifetime),

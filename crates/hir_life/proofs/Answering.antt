@@ -8,7 +8,7 @@ use Rattle.hir_life.specs.declared.bounds.BoundedLifetime.{BoundedLifetime}
 use Rattle.hir_life.specs.declared.walks.Direction.TheVariants.{Longer}
 use Rattle.hir_life.specs.Environment.{Environment, longer_of}
 use Rattle.hir_life.specs.Outlives.{Linked, Outlives}
-use Rattle.hir_life.specs.Walk.{Walk, Gives, Ends}
+use Rattle.hir_life.specs.Walk.{Walk, GivesNext, Ends}
 use Rattle.hir_life.specs.Listing.{IsOnceEach, ListsLonger, bounds_declared}
 use Rattle.hir_life.proofs.Marking.{apart_more}
 use Rattle.hir_life.proofs.Ordering.{gives_start}
@@ -45,7 +45,7 @@ first_more (x ∷ ls) s l was now = was (omega arith)
 
 -- one lifetime more is given and kept
 pub collected_more :
-    (e : Environment) (s : ℕ) (w after : Walk) (ls : List ℕ) (l : ℕ) → Collected e s w ls → Gives w l after
+    (e : Environment) (s : ℕ) (w after : Walk) (ls : List ℕ) (l : ℕ) → Collected e s w ls → GivesNext w l after
     → Collected e s after (ls ++ l ∷ [])
 collected_more e s w after ls l is gives =
     let next : Collected e s (record w { given = w.given ++ l ∷ [] }) (ls ++ l ∷ []) =
@@ -73,7 +73,7 @@ collected_more e s w after ls l is gives =
 
 -- there is room for one more
 pub collected_room :
-    (e : Environment) (s : ℕ) (w after : Walk) (ls : List ℕ) (l : ℕ) → Collected e s w ls → Gives w l after
+    (e : Environment) (s : ℕ) (w after : Walk) (ls : List ℕ) (l : ℕ) → Collected e s w ls → GivesNext w l after
     → length ls < e.count
 collected_room e s w after ls l is gives =
     let more = collected_more e s w after ls l is gives in

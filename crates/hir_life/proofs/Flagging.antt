@@ -5,7 +5,7 @@ use Rattle.std.proofs.lemmas.List.Elements.{Contains-push_cases}
 use Rattle.hir_life.specs.declared.walks.Direction.TheVariants.{Longer}
 use Rattle.hir_life.specs.Environment.{Environment, followed}
 use Rattle.hir_life.specs.Outlives.{Outlives}
-use Rattle.hir_life.specs.Walk.{Walk, Belongs, Gives}
+use Rattle.hir_life.specs.Walk.{Walk, Belongs, GivesNext}
 use Rattle.hir_life.proofs.Marking.{flag_of_old, flag_of_new, flag_was}
 
 -- the flags are those of what the walk from s to the longer has given
@@ -37,13 +37,13 @@ belonging e s w k environment direction start o =
 
 -- what is given has a flag
 pub flag_within :
-    (e : Environment) (s : ℕ) (w after : Walk) (flags : List Bool) (l : ℕ) → FlagsGiven e s w flags → Gives w l after
+    (e : Environment) (s : ℕ) (w after : Walk) (flags : List Bool) (l : ℕ) → FlagsGiven e s w flags → GivesNext w l after
     → l < length flags
 flag_within e s w after flags l is gives = omega (arith, is.each, gives.within, ap (λ x. x.count) is.environment)
 
 -- the flag of what is given is set
 pub flags_more :
-    (e : Environment) (s : ℕ) (w after : Walk) (flags : List Bool) (l : ℕ) → FlagsGiven e s w flags → Gives w l after
+    (e : Environment) (s : ℕ) (w after : Walk) (flags : List Bool) (l : ℕ) → FlagsGiven e s w flags → GivesNext w l after
     → FlagsGiven e s after (set flags l true)
 flags_more e s w after flags l is gives =
     let within = flag_within e s w after flags l is gives in

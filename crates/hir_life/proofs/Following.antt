@@ -11,10 +11,11 @@ use Rattle.hir_life.specs.declared.walks.Direction.TheVariants.{Longer, Shorter}
 use Rattle.hir_life.specs.Environment.{Environment, IsSound, followed}
 use Rattle.hir_life.specs.Outlives.{Outlives}
 use Rattle.hir_life.specs.Listing.{IsOnceEach}
-use Rattle.hir_life.specs.Queue.{Queue, IsQueue, Advances, Moves, Begins, IsFromFirst, walk_of}
-use Rattle.hir_life.specs.Reaching.{Marks, Reaches}
-use Rattle.hir_life.specs.First.{IsFirstNotIn, AreFirstNotIn}
-use Rattle.hir_life.specs.Walk.{Walk, Gives, Ends, WalksOn, walk_from, candidates}
+use Rattle.hir_life.specs.inside.Queue.{Queue, IsQueue, TakesNext, Moves, Begins, IsFromFirst, walk_of}
+use Rattle.hir_life.specs.inside.Reaching.{Marks, Reaches}
+use Rattle.hir_life.specs.First.{IsFirstNotIn}
+use Rattle.hir_life.specs.inside.Firsts.{AreFirstNotIn}
+use Rattle.hir_life.specs.Walk.{Walk, GivesNext, Ends, WalksOn, walk_from, candidates}
 use Rattle.std.specs.Iterator.{MakesProgress, at_most}
 use Rattle.hir_life.proofs.Distinct.{distinct_below}
 use Rattle.hir_life.proofs.Ordering.{first_right, ordered_append, each_in_pieces}
@@ -22,8 +23,8 @@ use Rattle.hir_life.proofs.Chains.{outlives_itself, outlives_by_longer, closed_h
 
 -- bounds name lifetimes of the environment
 pub bound_within : (e : Environment) (d : Direction) (k l : ℕ) → IsSound e → Contains (followed e d k) l → l < e.count
-bound_within e Longer k l sound h = omega (arith, sound.longer_named k l h, sound.counted)
-bound_within e Shorter k l sound h = omega (arith, sound.shorter_named k l h, sound.counted)
+bound_within e Longer k l sound h = omega (arith, sound.bounds.longer_named k l h, sound.counted)
+bound_within e Shorter k l sound h = omega (arith, sound.bounds.shorter_named k l h, sound.counted)
 
 -- a lifetime that was reached has its flag
 pub reached_within : (order : List ℕ) (reached : List Bool) (k : ℕ) → Marks order reached → Contains order k → k < length reached
@@ -63,7 +64,7 @@ front_more old more head within = take-append-le (head + 1) old more (omega arit
 
 -- what was given, and then l
 front_then :
-    (q after : Queue) (l : ℕ) → Advances q l after → take (q.given + 1) after.reached ≡ take q.given q.reached ++ l ∷ []
+    (q after : Queue) (l : ℕ) → TakesNext q l after → take (q.given + 1) after.reached ≡ take q.given q.reached ++ l ∷ []
 front_then q after l step =
     ap (take (q.given + 1)) step.reaches.grown ∙ front_more q.reached step.reaches.more q.given step.waiting
     ∙ ap (λ x. take q.given q.reached ++ x ∷ []) (sym step.here)
@@ -161,7 +162,7 @@ candidates_reached q queue from k h =
 
 -- what was reached along the bounds of what outlives the first outlives the first
 pub from_first_step :
-    (q after : Queue) (l : ℕ) → IsQueue q → IsFromFirst q → Advances q l after → IsFromFirst after
+    (q after : Queue) (l : ℕ) → IsQueue q → IsFromFirst q → TakesNext q l after → IsFromFirst after
 from_first_step q after l queue from step =
     let direct : (ℕ → List ℕ) = followed q.environment q.direction in
     let has : Contains q.reached l =
@@ -207,7 +208,7 @@ fresh_next order head apart within h =
     apart h.0 head before within same
 
 -- what a step gives
-gives_next : (q after : Queue) (l : ℕ) → IsQueue q → IsFromFirst q → Advances q l after → Gives (walk_of q) l (walk_of after)
+gives_next : (q after : Queue) (l : ℕ) → IsQueue q → IsFromFirst q → TakesNext q l after → GivesNext (walk_of q) l (walk_of after)
 gives_next q after l queue from step =
     let has : Contains q.reached l =
     subst (λ x. Contains q.reached x) (sym step.here) (Contains-get_or q.reached q.given 0 step.waiting) in

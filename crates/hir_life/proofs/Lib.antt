@@ -1,3 +1,4 @@
+pub mod Declaring
 pub mod Chains
 pub mod Ordering
 pub mod Marking

@@ -8,8 +8,8 @@ use Rattle.std.proofs.lemmas.List.Sums.{count_by-le-length, sum_by-set}
 use Rattle.std.proofs.lemmas.List.Elements.{Contains-get_or, Contains-append_left, Contains-append_right, Contains-push, Contains-push_cases, Contains-append_cases}
 use Rattle.std.proofs.lemmas.Grind.{common_steps}
 use Rattle.std.proofs.lemmas.Bool.{cases_lt, cases_eq, false≢true}
-use Rattle.hir_life.specs.First.{AreFirstNotIn}
-use Rattle.hir_life.specs.Reaching.{Marks, Reaches}
+use Rattle.hir_life.specs.inside.Firsts.{AreFirstNotIn}
+use Rattle.hir_life.specs.inside.Reaching.{Marks, Reaches}
 use Rattle.hir_life.proofs.Ordering.{first_alone, ordered_append}
 
 -- a flag that is set anew is counted once more

@@ -7,8 +7,9 @@ use Rattle.std.proofs.Math.ListN.{get_or-append}
 use Rattle.std.proofs.Math.Seq.{get_or-append_right, take-append-add}
 use Rattle.std.proofs.lemmas.List.Elements.{Contains-append_left, Contains-append_right, Contains-append_cases}
 use Rattle.std.proofs.lemmas.Bool.{cases_lt}
-use Rattle.hir_life.specs.First.{IsFirstNotIn, AreFirstNotIn}
-use Rattle.hir_life.specs.Walk.{Walk, Gives, Ends, WalksOn}
+use Rattle.hir_life.specs.First.{IsFirstNotIn}
+use Rattle.hir_life.specs.inside.Firsts.{AreFirstNotIn}
+use Rattle.hir_life.specs.Walk.{Walk, GivesNext, Ends, WalksOn}
 
 -- the list goes on behind
 pub first_right :
@@ -111,13 +112,13 @@ one_first given l m (x ∷ front) back (y ∷ others) rest e were had fresh new 
     fresh new
 
 -- a walk gives one lifetime next
-one_next : (w a b : Walk) (l m : ℕ) → Gives w l a → Gives w m b → l ≡ m
+one_next : (w a b : Walk) (l m : ℕ) → GivesNext w l a → GivesNext w m b → l ≡ m
 one_next w a b l m one other =
     one_first w.given l m one.next.before one.next.after other.next.before other.next.after
     (sym one.next.split ∙ other.next.split) one.next.given_before other.next.given_before one.fresh other.fresh
 
 -- a walk that is over gives nothing
-gives_no_more : (w a b : Walk) (l : ℕ) → Ends w a → Gives w l b → ⊥
+gives_no_more : (w a b : Walk) (l : ℕ) → Ends w a → GivesNext w l b → ⊥
 gives_no_more w a b l over gives = gives.fresh (over.complete l gives.belongs)
 
 runs_same :
@@ -149,6 +150,6 @@ begins_with given s l rest (x ∷ before) after none e were =
     absurd (omega (arith, has.1))
 
 -- a walk that has given nothing gives its start
-pub gives_start : (w after : Walk) (l : ℕ) → Gives w l after → w.given ≡ [] → l ≡ w.start
+pub gives_start : (w after : Walk) (l : ℕ) → GivesNext w l after → w.given ≡ [] → l ≡ w.start
 gives_start w after l gives none =
     begins_with w.given w.start l _ gives.next.before gives.next.after none gives.next.split gives.next.given_before

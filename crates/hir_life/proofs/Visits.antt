@@ -12,8 +12,9 @@ use Rattle.hir_life.specs.declared.walks.Direction.TheVariants.{Longer}
 use Rattle.hir_life.specs.Environment.{Environment, IsSound, followed, longer_of}
 use Rattle.hir_life.specs.Listing.{IsOnceEach}
 use Rattle.hir_life.specs.Outlives.{Linked, Outlives}
-use Rattle.hir_life.specs.Queue.{Queue, IsQueue, Advances, Begins}
-use Rattle.hir_life.specs.Visiting.{Visitor, Visits, HasVisited}
+use Rattle.hir_life.specs.inside.Queue.{Queue, IsQueue, TakesNext, Begins}
+use Rattle.hir_life.specs.Visiting.{Visitor, Visits}
+use Rattle.hir_life.specs.inside.Visited.{HasVisited}
 use Rattle.hir_life.proofs.Chains.{outlives_itself, outlives_by_longer, closed_has_longer}
 use Rattle.hir_life.proofs.Distinct.{distinct_below}
 use Rattle.hir_life.proofs.Following.{only}
@@ -138,7 +139,7 @@ module _ {F : Type 0} (call : F → ℕ → F → Type 0) (v : Visitor F) (s : �
 
   -- one lifetime is given and called at, and its bounds are reached
   pub visit_steps :
-      (q after : Queue) (f next : F) (l : ℕ) → OnVisit q f → Advances q l after → call f l next → OnVisit after next
+      (q after : Queue) (f next : F) (l : ℕ) → OnVisit q f → TakesNext q l after → call f l next → OnVisit after next
   visit_steps q after f next l on step called =
       let n : ℕ = length v.visited in
       let direct : followed q.environment q.direction l ≡ longer_of v.environment l =
@@ -170,7 +171,7 @@ module _ {F : Type 0} (call : F → ℕ → F → Type 0) (v : Visitor F) (s : �
               | inr now ↦
                   let d : Contains (longer_of v.environment l) k =
                   subst (λ x. Contains x k) direct (step.reaches.among k now) in (
-                    on.sound.longer_named l k d,
+                    on.sound.bounds.longer_named l k d,
                     outlives_by_longer (longer_of v.environment) k l s d outlives,
                   )
             ];
@@ -232,7 +233,7 @@ module _ {F : Type 0} (call : F → ℕ → F → Type 0) (v : Visitor F) (s : �
 
 -- a visit's measure falls with each step
 pub visit_nearer :
-    (q after : Queue) (l : ℕ) → IsQueue q → Advances q l after
+    (q after : Queue) (l : ℕ) → IsQueue q → TakesNext q l after
     → after.environment.count - after.given < q.environment.count - q.given
 visit_nearer q after l queue step =
     omega (

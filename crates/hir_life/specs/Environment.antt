@@ -1,6 +1,6 @@
 -- The lifetimes of a signature or of a definition.
-use Rattle.std.specs.Prelude.{ℕ, List, [], length, map, slice_index_or, ◌<◌, ◌≤◌}
-use Rattle.std.specs.List.{Contains}
+use Rattle.std.specs.Prelude.{ℕ, List, [], length, map, slice_index_or, ◌≤◌}
+use Rattle.bridge_decl.specs.Lifetimes.{AreMutual}
 use Rattle.hir_life.specs.declared.bounds.BoundedLifetime.{BoundedLifetime}
 use Rattle.hir_life.specs.declared.walks.Direction.{Direction}
 use Rattle.hir_life.specs.declared.walks.Direction.TheVariants.{Longer, Shorter}
@@ -24,10 +24,7 @@ abbrev pub followed : Environment → Direction → ℕ → List ℕ
 followed e Longer = longer_of e
 followed e Shorter = shorter_of e
 
--- bounds are between named lifetimes and stand at both of their ends, and the named lifetimes are counted among all
+-- bounds are between named lifetimes, each stands at both of its ends, and the named lifetimes are counted among all
 pub record IsSound (e : Environment) : Type 0 where
-  pub longer_named : (s l : ℕ) → Contains (longer_of e s) l → l < length e.bounds
-  pub shorter_named : (l s : ℕ) → Contains (shorter_of e l) s → s < length e.bounds
-  pub longer_has_shorter : (l s : ℕ) → Contains (longer_of e s) l → Contains (shorter_of e l) s
-  pub shorter_has_longer : (l s : ℕ) → Contains (shorter_of e l) s → Contains (longer_of e s) l
+  pub bounds : AreMutual (length e.bounds) (longer_of e) (shorter_of e)
   pub counted : length e.bounds ≤ e.count

@@ -9,7 +9,3 @@ pub record IsFirstNotIn (given list : List ℕ) (l : ℕ) : Type 0 where
   pub after : List ℕ
   pub split : list ≡ before ++ l ∷ after
   pub given_before : (k : ℕ) → Contains before k → Contains given k
-
--- the same of each of these, one after another, once those before it were given too: where a was given, of b, c
-abbrev pub AreFirstNotIn : List ℕ → List ℕ → List ℕ → Type 0
-AreFirstNotIn given list ls = (i : ℕ) → i < length ls → IsFirstNotIn (given ++ take i ls) list (slice_index ls i)

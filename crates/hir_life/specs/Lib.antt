@@ -1,13 +1,12 @@
 pub mod First
 pub mod Outlives
 pub mod Environment
+pub mod Declarations
 pub mod Naming
 pub mod Substitution
 pub mod Listing
-pub mod Reaching
 pub mod Walk
-pub mod Queue
-pub mod Walking
 pub mod Flags
 pub mod Visiting
 pub mod Comparing
+pub mod inside

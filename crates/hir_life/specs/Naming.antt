@@ -16,8 +16,8 @@ name_or_number (Some name) number = name
 name_or_number None number = codes "anon_" ++ decimal number
 
 -- the name of the lifetime l, or `anon_` and its number past the names: `fn f<'a>(x: &u8)` has `a` and `anon_0`
-abbrev pub name_of : Environment → ℕ → List ℕ
-name_of e l = name_or_number (slice_get (map (λ b. b.ident) e.bounds) l) (l - length e.bounds)
+abbrev pub printed_name : Environment → ℕ → List ℕ
+printed_name e l = name_or_number (slice_get (map (λ b. b.ident) e.bounds) l) (l - length e.bounds)
 
 -- l has this name, or it is anonymous with this many anonymous lifetimes before it
 abbrev pub IsNameOf : Environment → ℕ → LifetimeName → Type 0

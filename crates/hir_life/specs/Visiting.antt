@@ -4,8 +4,6 @@ use Rattle.std.specs.List.{Contains, FoldsTo}
 use Rattle.hir_life.specs.Environment.{Environment, longer_of}
 use Rattle.hir_life.specs.Listing.{IsOnceEach}
 use Rattle.hir_life.specs.Outlives.{Outlives}
-use Rattle.hir_life.specs.Queue.{Queue}
-use Rattle.hir_life.specs.declared.walks.Direction.TheVariants.{Longer}
 
 -- the environment, the lifetimes that were visited, and what is called at each
 pub record Visitor (F : Type 0) : Type 0 where
@@ -26,9 +24,3 @@ pub record Visits {F : Type 0} (call : F → ℕ → F → Type 0) (v : Visitor 
   pub called : FoldsTo call v.visit_fn now after.visit_fn
   pub noted : after.visited ≡ v.visited ++ now
   pub same : after.environment ≡ v.environment
-
--- what is true of the visitor's walk between two calls: all that it reached is named, and was given
-pub record HasVisited (q : Queue) : Type 0 where
-  pub longer : q.direction ≡ Longer
-  pub all_given : q.given ≡ length q.reached
-  pub named : (k : ℕ) → Contains q.reached k → k < length q.environment.bounds

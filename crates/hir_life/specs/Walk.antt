@@ -29,7 +29,7 @@ candidates w = w.start ∷ flat_map (followed w.environment w.direction) w.given
 
 -- the walk gives l: a lifetime that belongs to it and was not given, and of the candidates that were not given the first.
 -- From a in `fn f<'a, 'b: 'a, 'c: 'a>` it gives a, then b, and then c
-pub record Gives (w : Walk) (l : ℕ) (after : Walk) : Type 0 where
+pub record GivesNext (w : Walk) (l : ℕ) (after : Walk) : Type 0 where
   pub belongs : Belongs w l
   pub within : l < w.environment.count
   pub fresh : Contains w.given l → ⊥
@@ -44,4 +44,4 @@ pub record Ends (w after : Walk) : Type 0 where
 -- what one call of `next` does, by what it returns
 abbrev pub WalksOn : Walk → Option ℕ → Walk → Type 0
 WalksOn w None after = Ends w after
-WalksOn w (Some l) after = Gives w l after
+WalksOn w (Some l) after = GivesNext w l after

@@ -22,8 +22,8 @@ use std::marker::Model;
 /// The bounds stand between named lifetimes, and each is kept at both of its ends.
 #[derive(Drop)]
 pub struct LifetimeEnv {
-    nodes: Items<BoundedLifetime>,
-    count: usize,
+    pub(crate) nodes: Items<BoundedLifetime>,
+    pub(crate) count: usize,
 }
 
 impl Model for LifetimeEnv {
@@ -39,7 +39,7 @@ impl Model for LifetimeEnv {
 impl LifetimeEnv {
     ghost use Rattle.hir_life.specs.Environment.{Environment, IsSound, followed, longer_of, shorter_of};
     ghost use Rattle.hir_life.specs.Outlives.{Outlives};
-    ghost use Rattle.hir_life.specs.Naming.{IsNameOf, name_of, printed};
+    ghost use Rattle.hir_life.specs.Naming.{IsNameOf, printed, printed_name};
     ghost use Rattle.hir_life.specs.Substitution.{identity};
     ghost use Rattle.hir_life.specs.Walk.{walk_from};
     ghost use Rattle.hir_life.specs.declared.walks.Direction.TheVariants.{Longer, Shorter};
@@ -120,7 +120,7 @@ impl LifetimeEnv {
     pub fn fmt_lifetime(&self, lt: Lifetime) -> LifetimeName<'_>
         requires { lt < self.now.count }
         ensures kind { IsNameOf self.now lt result }
-        ensures text { printed result ≡ name_of self.now lt }
+        ensures text { printed result ≡ printed_name self.now lt }
     {
         match self.nodes.as_slice().get(lt.index()) {
             Some(node) => LifetimeName::Named(node.ident.as_str()),

@@ -2,7 +2,7 @@
 
 ghost use Rattle.std.specs.Prelude.{◌≡◌, ℕ, ◌<◌, ◌≤◌, [], ◌∷◌, length, vec_capacity};
 ghost use Rattle.std.specs.List.{Contains};
-ghost use Rattle.hir_life.specs.Reaching.{Marks, Reaches};
+ghost use Rattle.hir_life.specs.inside.Reaching.{Marks, Reaches};
 
 use crate::lifetime_index::Lifetime;
 

@@ -18,7 +18,8 @@ pub struct SubtypeLifetimeVisitor<'env, F> {
 }
 
 impl<'env, F> Model for SubtypeLifetimeVisitor<'env, F> {
-    ghost use Rattle.hir_life.specs.Visiting.{Visitor, HasVisited};
+    ghost use Rattle.hir_life.specs.Visiting.{Visitor};
+    ghost use Rattle.hir_life.specs.inside.Visited.{HasVisited};
 
     ghost Value = { Visitor F };
 

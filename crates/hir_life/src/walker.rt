@@ -26,11 +26,11 @@ pub(crate) struct Walker<'env> {
 }
 
 impl<'env> Model for Walker<'env> {
-    ghost use Rattle.hir_life.specs.Queue.{Queue};
+    ghost use Rattle.hir_life.specs.inside.Queue.{Queue};
 
     ghost Value = { Queue };
 
-    ghost use Rattle.hir_life.specs.Walking.{queue_of, IsWalking};
+    ghost use Rattle.hir_life.specs.inside.Walking.{queue_of, IsWalking};
 
     ghost view = { queue_of };
 
@@ -39,7 +39,7 @@ impl<'env> Model for Walker<'env> {
 
 impl<'env> Walker<'env> {
     ghost use Rattle.hir_life.specs.Environment.{IsSound};
-    ghost use Rattle.hir_life.specs.Queue.{Begins, IsQueue, Moves};
+    ghost use Rattle.hir_life.specs.inside.Queue.{Begins, IsQueue, Moves};
 
     /// A walk that has no start yet. It takes all the memory that it needs.
     pub(crate) fn new(

@@ -34,7 +34,7 @@ impl<'env> Model for LifetimeTransitivityIterator<'env> {
 
     ghost Value = { Walk };
 
-    ghost use Rattle.hir_life.specs.Queue.{walk_of, IsFromFirst};
+    ghost use Rattle.hir_life.specs.inside.Queue.{walk_of, IsFromFirst};
 
     ghost view = { λ it. walk_of it.walker };
 

@@ -20,6 +20,3 @@ impl Default for LoweringConfig {
         }
     }
 }
-
-#[cfg(test)]
-mod tests;

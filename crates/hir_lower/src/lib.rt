@@ -6,3 +6,6 @@
 mod config;
 
 pub use config::LoweringConfig;
+
+#[cfg(test)]
+mod tests;

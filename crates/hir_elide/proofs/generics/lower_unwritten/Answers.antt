@@ -4,8 +4,8 @@ use Rattle.bridge_decl.specs.declared.lifetimes.Lifetime.TheVariants as written
 use Rattle.hir_elide.proofs.GenericLemmas.{goes_on, one_more, split_at, stops}
 use Rattle.hir_elide.proofs.generics.lower_unwritten.Goals as goal
 
-pub returns-in_err-number-clause-told : goal.returns-in_err-number-clause-told
-returns-in_err-number-clause-told g c = λ s ls stands so_far.
+pub returns-in_err-number-clause-fault : goal.returns-in_err-number-clause-fault
+returns-in_err-number-clause-fault g c = λ s ls stands so_far.
     let before = c.loop.invariant s ls stands so_far in
     let p = err_from_is_err_and c.from_residual.result c.from_residual.ensures.1 in
     let split = split_at c.loop.counter c.args.count c.loop-test.true in
@@ -17,7 +17,7 @@ pub loop-preserved : goal.loop-preserved
 loop-preserved g c = λ s ls stands so_far.
     let before = c.loop.invariant s ls stands so_far in
     goes_on g.L.LowerLifetime.phase s (ls ++ replicate c.loop.counter written.Anonymous) c.loop.lowered written.Anonymous before.0 c.in_ok-number.number
-    (g.L.LowerLifetime.stands c.lower_lifetime.new.self) (c.in_ok-number.ensures.told _ before.1) (c.in_ok-number.ensures.kept _ before.1)
+    (g.L.StandsFor.stands c.lower_lifetime.new.self) (c.in_ok-number.ensures.told _ before.1) (c.in_ok-number.ensures.kept _ before.1)
     (ls ++ replicate (c.loop.counter + 1) written.Anonymous)
     (append_assoc ls (replicate c.loop.counter written.Anonymous) (written.Anonymous ∷ []) ∙ ap (λ xs. ls ++ xs) (one_more c.loop.counter))
     c.push.new.self c.in_ok-push.ensures.ok

@@ -1,5 +1,5 @@
 use Rattle.std.proofs.Common.{◌≡◌, length, take, vec_capacity}
-use Rattle.hir_life.specs.Reaching.{Marks, Reaches}
+use Rattle.hir_life.specs.inside.Reaching.{Marks, Reaches}
 use Rattle.hir_life.proofs.reaching.reach_all.Given as goal
 
 abbrev pub invariant-loop-lifetime : goal.invariant-loop-lifetime

@@ -6,5 +6,5 @@ use Rattle.hir_elide.proofs.numbering.Numbering.anonymous.Goals as goal
 
 pub returns-clause-kept : goal.returns-clause-kept
 returns-clause-kept c = λ s role numbers.
-    numbers_used c.args.self.now s role written.Anonymous _ _ numbers
-    (c.add_anonymous.ensures ∙ ap {B = Environment} (λ (n : ℕ). record { bounds = c.args.self.now.lifetimes.bounds; count = n }) (omega arith))
+    numbers_used c.args.self.now s role written.Anonymous _ numbers
+    (c.add_anonymous.ensures.added ∙ ap {B = Environment} (λ (n : ℕ). record { bounds = c.args.self.now.lifetimes.bounds; count = n }) (omega arith))

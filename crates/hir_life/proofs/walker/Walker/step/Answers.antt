@@ -1,9 +1,9 @@
 use Rattle.std.proofs.Common.{◌≡◌, ◌<◌, length, get_or, subst, arith, rules}
 use Rattle.std.specs.List.{Contains}
 use Rattle.hir_life.specs.Environment.{followed}
-use Rattle.hir_life.specs.Queue.{IsQueue}
-use Rattle.hir_life.specs.Reaching.{Reaches}
-use Rattle.hir_life.specs.Walking.{queue_of}
+use Rattle.hir_life.specs.inside.Queue.{IsQueue}
+use Rattle.hir_life.specs.inside.Reaching.{Reaches}
+use Rattle.hir_life.specs.inside.Walking.{queue_of}
 use Rattle.hir_life.proofs.Following.{bound_within, item_is, reaches_at, closed_step, is_queue, length_more}
 use Rattle.hir_life.proofs.walker.Walker.step.Goals as goal
 

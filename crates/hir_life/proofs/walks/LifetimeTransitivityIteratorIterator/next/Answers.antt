@@ -1,5 +1,5 @@
 use Rattle.std.proofs.Common.{subst, rules}
-use Rattle.hir_life.specs.Queue.{walk_of}
+use Rattle.hir_life.specs.inside.Queue.{walk_of}
 use Rattle.hir_life.specs.Walk.{WalksOn}
 use Rattle.hir_life.proofs.Following.{from_first_moves, walks_on, walk_goes}
 use Rattle.hir_life.proofs.walks.LifetimeTransitivityIteratorIterator.next.Goals as goal

@@ -1,0 +1,14 @@
+//! Declared names.
+
+use super::*;
+use crate::{ElideFault, SelfParamLifetimeLowerer};
+
+#[test]
+fn names_are_identifiers(rt: HostRuntime) -> Result<(), ElideFault> {
+    let env = one_name(rt.alloc(), "match")?;
+    match SelfParamLifetimeLowerer::new(rt.alloc(), &env) {
+        Ok(_) => assert!(rt; false),
+        Err(fault) => assert_eq!(rt; fault, ElideFault::BadIdent),
+    }
+    Ok(())
+}

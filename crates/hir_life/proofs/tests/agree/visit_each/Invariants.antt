@@ -1,4 +1,0 @@
-use Rattle.hir_life.proofs.tests.agree.visit_each.Given as goal
-
-abbrev pub invariant-loop-start : goal.invariant-loop-start
-invariant-loop-start g l = goal.F-IsAlwaysCallable g l.visitor.visit_fn

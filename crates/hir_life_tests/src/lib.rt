@@ -1,0 +1,7 @@
+//! Tests of `hir_life`: walks, visits and flags against a plain search, substitution, names, copies, and declared lifetimes.
+//!
+//! They are a crate of their own, since a crate with tests is proved once more with them.
+#![tactic(auto)]
+
+#[cfg(test)]
+mod tests;
