@@ -1,5 +1,5 @@
 -- What reading an input answers: what is spelled, and else the first fault.
-use Rattle.std.proofs.Common.{◌≡◌, ℕ, List, [], ◌∷◌, ◌++◌, length, Option, Some, Result, Ok, Err, refl, sym, ap, subst, ◌∙◌, inr}
+use Rattle.std.proofs.Common.{◌≡◌, ℕ, List, [], ◌∷◌, ◌++◌, Option, Some, Result, Ok, Err, refl, sym, ap, subst, ◌∙◌, inr}
 use Rattle.std.specs.Prelude.{slice_get}
 use Rattle.std.specs.List.{flat_map}
 use Rattle.serde_json.specs.Data.{Data}
@@ -9,16 +9,16 @@ use Rattle.bridge_ast.specs.declared.fault.EnvFault.TheVariants.{Bad}
 use Rattle.bridge_ast.specs.declared.fault.EnvFaultKind.{EnvFaultKind}
 use Rattle.bridge_ast.specs.declared.fault.EnvPlace.{EnvPlace}
 use Rattle.bridge_ast.specs.Sound.{AreSound}
+use Rattle.bridge_ast.proofs.SoundLemmas.{clean_from}
 use Rattle.bridge_decl.specs.declared.modules.Module.{Module}
 use Rattle.bridge_read.specs.declared.fault.Fault.{Fault}
 use Rattle.bridge_read.specs.declared.input.Declared.{Declared}
 use Rattle.bridge_read.specs.declared.input.Input.{Input}
 use Rattle.bridge_read.specs.declared.input.InputFault.{InputFault}
 use Rattle.bridge_read.specs.declared.input.InputFault.TheVariants.{NotDeclarations, NoMemory}
-use Rattle.bridge_read.specs.Inputs.{IsJsonOf, SpellsInput, IsFirstFault, IsToldOf, IsReadAs, GivesForm, GivesEnv, Tells, between, fault_of, told_in}
+use Rattle.bridge_read.specs.inside.Answers.{GivesForm, GivesEnv, IsNoJson}
+use Rattle.bridge_read.specs.Inputs.{IsJsonOf, SpellsInput, IsFirstFault, IsToldOf, IsReadAs, Refuses, Tells, all_faults, between, fault_of, told_in}
 use Rattle.bridge_read.specs.forms.Inputs.{declared_of, whole}
-use Rattle.bridge_read.specs.Pointers.{module_pointers}
-use Rattle.bridge_read.proofs.CountLemmas.{modules_counted}
 use Rattle.bridge_read.proofs.FormLaws.{Begins}
 use Rattle.bridge_read.proofs.forms.Inputs.{whole_lawful}
 
@@ -55,11 +55,11 @@ spelled_once bytes one other first second =
     let same = good_is (declared_by one) (declared_by other) (sym (read_of bytes first.value one first.json first) ∙ read_of bytes first.value other first.json second) in
     ap input_by same
 
--- each module of an input has its pointer
-pub has_pointers : (bytes : List ℕ) (input : Input) (value : Data) → SpellsInput bytes input → IsJsonOf bytes value → length input.env ≡ length (module_pointers value)
-has_pointers bytes input value spells json =
-    subst (λ d. length input.env ≡ length (module_pointers d)) (same_value bytes spells.value value spells.json json)
-    (modules_counted spells.value (declared_by input) spells.form)
+-- what is spelled has no fault
+pub faultless : (bytes : List ℕ) (value : Data) (input : Input) → SpellsInput bytes input → IsJsonOf bytes value → all_faults value ≡ []
+faultless bytes value input spells json =
+    let reads = read_of bytes value input json spells in
+    rw (whole_lawful.sound value (declared_by input) reads, reads, clean_from input.env spells.sound) refl
 
 pub is_spelled : (bytes : List ℕ) (d : Data) (declared : Declared) → IsJsonOf bytes d → whole.read d ≡ Ok declared → AreSound declared.modules → SpellsInput bytes (input_by declared)
 is_spelled bytes d declared json reads sound = record { value = d; json = json; form = whole_lawful.found d declared reads; sound = sound }
@@ -98,10 +98,18 @@ first_told d told fault what at other modules is first broken tells =
 no_declared : (d : Data) (declared : Declared) (fault : Fault) → whole.read d ≡ Ok declared → whole.read d ≡ Err fault → ⊥
 no_declared d declared fault reads refuses = let e : good declared ≡ Err fault = sym reads ∙ refuses in absurd cc
 
+pub json_refuses : (bytes : List ℕ) (told : InputFault) → IsNoJson bytes told → Refuses bytes told
+json_refuses bytes NoMemory gives = tt
+json_refuses bytes (NotDeclarations what pointer) gives = λ input spells. gives.none (spells.value, spells.json)
+
 module _ (bytes : List ℕ) (d : Data) (json : IsJsonOf bytes d) where
   pub form_only : (told : InputFault) → GivesForm (Err told) d → (input : Input) → SpellsInput bytes input → IsReadAs (Err told) input
   form_only NoMemory gives input spells = tt
   form_only (NotDeclarations what pointer) gives input spells = no_declared d (declared_by input) gives.0 (read_of bytes d input json spells) gives.1
+
+  pub form_refuses : (told : InputFault) → GivesForm (Err told) d → Refuses bytes told
+  form_refuses NoMemory gives = tt
+  form_refuses (NotDeclarations what pointer) gives = form_only (NotDeclarations what pointer) gives
 
   pub form_is_told : (told : InputFault) → GivesForm (Err told) d → IsToldOf bytes told
   form_is_told NoMemory gives = tt
@@ -115,6 +123,10 @@ module _ (bytes : List ℕ) (d : Data) (json : IsJsonOf bytes d) where
     env_only NoMemory gives input spells = tt
     env_only (NotDeclarations what pointer) gives input spells =
         gives.0 (subst AreSound (sym (ap (λ (x : Declared). x.modules) (same_declared input spells))) spells.sound)
+
+    pub env_refuses : (told : InputFault) → GivesEnv (Err told) d declared.modules → Refuses bytes told
+    env_refuses NoMemory gives = tt
+    env_refuses (NotDeclarations what pointer) gives = env_only (NotDeclarations what pointer) gives
 
     pub env_is_told : (told : InputFault) → GivesEnv (Err told) d declared.modules → IsToldOf bytes told
     env_is_told NoMemory gives = tt

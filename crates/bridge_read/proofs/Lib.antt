@@ -1,12 +1,13 @@
 pub mod CharLemmas
 pub mod ChoiceLaws
 pub mod CountLemmas
+pub mod CutLaws
 pub mod DictionaryLaws
 pub mod EntryLemmas
 pub mod FormLaws
 pub mod InputLaws
 pub mod KeyTests
-pub mod KnownLemmas
+pub mod LeadLemmas
 pub mod LiveLemmas
 pub mod ModuleLemmas
 pub mod NameLemmas
@@ -17,6 +18,7 @@ pub mod PartLaws
 pub mod PointerLemmas
 pub mod Proved
 pub mod SettingLemmas
+pub mod TrueLemmas
 pub mod TwoLemmas
 pub mod WordLemmas
 pub mod forms

@@ -3,13 +3,13 @@ use Rattle.std.proofs.Common.{◌≡◌, ℕ, zero, suc, ◌+◌, ◌<◌, List,
 use Rattle.std.specs.Prelude.{slice_get}
 use Rattle.std.proofs.lemmas.List.{length-map}
 use Rattle.serde_json.specs.Data.{Data}
-use Rattle.lent_json.specs.Lists.{items_at}
-use Rattle.lent_json.specs.Read.{data_at}
-use Rattle.lent_json.specs.declared.value.Json.{Json}
+use Rattle.serde_json.specs.View.{items_view}
+use Rattle.serde_json.specs.View.{view}
+use Rattle.serde_json.specs.declared.value.Value.{Value}
 use Rattle.bridge_read.specs.declared.places.Search.{Search}
 use Rattle.bridge_read.specs.declared.places.Search.TheVariants.{Found, Left}
 use Rattle.bridge_read.specs.declared.pointer.Step.{Step}
-use Rattle.bridge_read.specs.Places.{Searches}
+use Rattle.bridge_read.specs.inside.Places.{Searches}
 use Rattle.bridge_read.specs.declared.pointer.Step.TheVariants.{Index}
 use Rattle.bridge_read.specs.declared.keys.Key.TheVariants as key
 use Rattle.bridge_read.specs.Reading.{at_key, under}
@@ -42,53 +42,53 @@ length_both [] ys = omega arith
 length_both (x ∷ xs) ys = let e = length_both xs ys in omega (arith, e)
 
 module _ (inside : Data → List (List Step)) where
-  abbrev entry_at : ℕ → Json → List (List Step)
-  entry_at n v = map (λ steps. Index n ∷ steps) (inside (data_at v))
+  abbrev entry_at : ℕ → Value → List (List Step)
+  entry_at n v = map (λ steps. Index n ∷ steps) (inside (view v))
 
-  count_next : (vs : List Json) (n i : ℕ) (v : Json) → i < length vs → v ≡ get_or vs i v
-      → length (in_entries inside n (items_at (take (suc i) vs))) ≡ length (in_entries inside n (items_at (take i vs))) + length (inside (data_at v))
+  count_next : (vs : List Value) (n i : ℕ) (v : Value) → i < length vs → v ≡ get_or vs i v
+      → length (in_entries inside n (items_view (take (suc i) vs))) ≡ length (in_entries inside n (items_view (take i vs))) + length (inside (view v))
   count_next [] n i v within is = absurd (omega arith)
   count_next (w ∷ vs) n zero v within is =
-      length_both (entry_at n w) [] ∙ (let e : length (entry_at n w) ≡ length (inside (data_at w)) = length-map (inside (data_at w)) (λ steps. Index n ∷ steps) in
-      let k : length (inside (data_at w)) ≡ length (inside (data_at v)) = ap (λ u. length (inside (data_at u))) (sym is) in omega (arith, e, k))
+      length_both (entry_at n w) [] ∙ (let e : length (entry_at n w) ≡ length (inside (view w)) = length-map (inside (view w)) (λ steps. Index n ∷ steps) in
+      let k : length (inside (view w)) ≡ length (inside (view v)) = ap (λ u. length (inside (view u))) (sym is) in omega (arith, e, k))
   count_next (w ∷ vs) n (suc i) v within is =
       let e = count_next vs (n + 1) i v (omega arith) is in
-      let before = length_both (entry_at n w) (in_entries inside (n + 1) (items_at (take i vs))) in
-      let after = length_both (entry_at n w) (in_entries inside (n + 1) (items_at (take (suc i) vs))) in
+      let before = length_both (entry_at n w) (in_entries inside (n + 1) (items_view (take i vs))) in
+      let after = length_both (entry_at n w) (in_entries inside (n + 1) (items_view (take (suc i) vs))) in
       omega (arith, e, before, after)
 
   -- a search goes on past one entry
-  pub counted_more : (vs : List Json) (i number left others : ℕ) (v : Json) → i < length vs → v ≡ get_or vs i v
-      → number ≡ length (in_entries inside 0 (items_at (take i vs))) + left → left ≡ length (inside (data_at v)) + others
-      → number ≡ length (in_entries inside 0 (items_at (take (i + 1) vs))) + others
+  pub counted_more : (vs : List Value) (i number left others : ℕ) (v : Value) → i < length vs → v ≡ get_or vs i v
+      → number ≡ length (in_entries inside 0 (items_view (take i vs))) + left → left ≡ length (inside (view v)) + others
+      → number ≡ length (in_entries inside 0 (items_view (take (i + 1) vs))) + others
   counted_more vs i number left others v within is before here =
       let e = count_next vs 0 i v within is in
       rw add-one (omega (arith, e, before, here))
 
-  found_next : (vs : List Json) (n i number left : ℕ) (v : Json) (p : List Step) → i < length vs → v ≡ get_or vs i v
-      → number ≡ length (in_entries inside n (items_at (take i vs))) + left → slice_get (inside (data_at v)) left ≡ Some p
-      → slice_get (in_entries inside n (items_at vs)) number ≡ Some (Index (n + i) ∷ p)
+  found_next : (vs : List Value) (n i number left : ℕ) (v : Value) (p : List Step) → i < length vs → v ≡ get_or vs i v
+      → number ≡ length (in_entries inside n (items_view (take i vs))) + left → slice_get (inside (view v)) left ≡ Some p
+      → slice_get (in_entries inside n (items_view vs)) number ≡ Some (Index (n + i) ∷ p)
   found_next [] n i number left v p within is before here = absurd (omega arith)
   found_next (w ∷ vs) n zero number left v p within is before here =
       let at : number ≡ left = omega (arith, before) in
-      let e : slice_get (inside (data_at w)) number ≡ Some p = rw at (subst (λ u. slice_get (inside (data_at u)) left ≡ Some p) is here) in
+      let e : slice_get (inside (view w)) number ≡ Some p = rw at (subst (λ u. slice_get (inside (view u)) left ≡ Some p) is here) in
       let same : n + 0 ≡ n = omega arith in
-      rw same (get_before (entry_at n w) (in_entries inside (n + 1) (items_at vs)) number (Index n ∷ p) (get_mapped (λ steps. Index n ∷ steps) (inside (data_at w)) number p e))
+      rw same (get_before (entry_at n w) (in_entries inside (n + 1) (items_view vs)) number (Index n ∷ p) (get_mapped (λ steps. Index n ∷ steps) (inside (view w)) number p e))
   found_next (w ∷ vs) n (suc i) number left v p within is before here =
-      let both = length_both (entry_at n w) (in_entries inside (n + 1) (items_at (take i vs))) in
-      let rest : ℕ = length (in_entries inside (n + 1) (items_at (take i vs))) + left in
+      let both = length_both (entry_at n w) (in_entries inside (n + 1) (items_view (take i vs))) in
+      let rest : ℕ = length (in_entries inside (n + 1) (items_view (take i vs))) + left in
       let e : number ≡ length (entry_at n w) + rest = omega (arith, both, before) in
       let same : n + 1 + i ≡ n + suc i = omega arith in
-      get_after (entry_at n w) (in_entries inside (n + 1) (items_at vs)) rest number e
+      get_after (entry_at n w) (in_entries inside (n + 1) (items_view vs)) rest number e
       ∙ (found_next vs (n + 1) i rest left v p (omega arith) is refl here ∙ ap (λ m. Some (Index m ∷ p)) same)
 
   -- a search ends at an entry
-  pub found_at : (vs : List Json) (i number left : ℕ) (v : Json) (p : List Step) → i < length vs → v ≡ get_or vs i v
-      → number ≡ length (in_entries inside 0 (items_at (take i vs))) + left → slice_get (inside (data_at v)) left ≡ Some p
-      → slice_get (in_entries inside 0 (items_at vs)) number ≡ Some (Index i ∷ p)
+  pub found_at : (vs : List Value) (i number left : ℕ) (v : Value) (p : List Step) → i < length vs → v ≡ get_or vs i v
+      → number ≡ length (in_entries inside 0 (items_view (take i vs))) + left → slice_get (inside (view v)) left ≡ Some p
+      → slice_get (in_entries inside 0 (items_view vs)) number ≡ Some (Index i ∷ p)
   found_at vs i number left v p within is before here =
       let same : 0 + i ≡ i = omega arith in
-      subst (λ m. slice_get (in_entries inside 0 (items_at vs)) number ≡ Some (Index m ∷ p)) same (found_next vs 0 i number left v p within is before here)
+      subst (λ m. slice_get (in_entries inside 0 (items_view vs)) number ≡ Some (Index m ∷ p)) same (found_next vs 0 i number left v p within is before here)
 
 -- ---- in modules
 

@@ -14,7 +14,6 @@ use Rattle.bridge_read.specs.declared.fault.InputKind.{InputKind}
 use Rattle.bridge_read.specs.declared.fault.InputKind.TheVariants as kind
 use Rattle.bridge_read.specs.declared.input.Declared.{Declared}
 use Rattle.bridge_ast.specs.declared.fault.EnvPlace.{EnvPlace}
-use Rattle.bridge_decl.specs.declared.modules.Module.{Module}
 use Rattle.bridge_read.specs.declared.input.Input.{Input}
 use Rattle.bridge_read.specs.declared.input.InputFault.{InputFault}
 use Rattle.bridge_read.specs.declared.input.InputFault.TheVariants.{NotDeclarations, NoMemory}
@@ -95,28 +94,13 @@ IsToldOf bytes NoMemory = Unit {0}
 
 -- ---- what reading answers
 
--- where the bytes are read as no JSON value
-abbrev pub IsNoJson : List ℕ → InputFault → Type 0
-IsNoJson bytes (NotDeclarations what pointer) = IsNone bytes (NotDeclarations what pointer)
-IsNoJson bytes NoMemory = Unit {0}
-
--- what the value is read as, or its first fault, unless memory ran out
-abbrev pub GivesForm : Result Declared InputFault → Data → Type 0
-GivesForm (Ok declared) d = whole.read d ≡ Ok declared
-GivesForm (Err NoMemory) d = Unit {0}
-GivesForm (Err (NotDeclarations what pointer)) d =
-    (fault : Fault) × (whole.read d ≡ Err fault) × Tells (NotDeclarations what pointer) fault
-
--- the environment of the modules that the value declares, or their first fault, unless memory ran out
-abbrev pub GivesEnv : Result (List Module) InputFault → Data → List Module → Type 0
-GivesEnv (Ok env) d modules = (env ≡ modules) × AreSound modules
-GivesEnv (Err NoMemory) d modules = Unit {0}
-GivesEnv (Err (NotDeclarations what pointer)) d modules =
-    ¬ AreSound modules × ((fault : Fault) × (slice_get (flat_map (told_in d) (faults_of modules)) 0 ≡ Some fault)
-    × Tells (NotDeclarations what pointer) fault)
-
 -- the input is read, unless memory ran out
 abbrev pub IsReadAs : Result Input InputFault → Input → Type 0
 IsReadAs (Ok read) input = read ≡ input
 IsReadAs (Err NoMemory) input = Unit {0}
 IsReadAs (Err (NotDeclarations what pointer)) input = ⊥
+
+-- bytes of which that is told spell no input; want of memory says nothing of them
+abbrev pub Refuses : List ℕ → InputFault → Type 0
+Refuses bytes (NotDeclarations what pointer) = (input : Input) → ¬ SpellsInput bytes input
+Refuses bytes NoMemory = Unit {0}

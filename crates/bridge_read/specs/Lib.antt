@@ -1,10 +1,12 @@
+pub mod Agree
 pub mod Form
 pub mod Inputs
 pub mod Keys
-pub mod Known
+pub mod ModulePlaces
 pub mod Parents
-pub mod Places
 pub mod Pointers
 pub mod Reading
+pub mod TruePlaces
 pub mod Words
 pub mod forms
+pub mod inside

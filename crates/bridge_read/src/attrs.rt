@@ -2,7 +2,7 @@
 
 ghost use Rattle.std.specs.Prelude.{◌≡◌, None, Some};
 ghost use Rattle.std.specs.Str.{all_ascii_digits};
-ghost use Rattle.lent_json.specs.Read.{data_at};
+ghost use Rattle.serde_json.specs.View.{view};
 ghost use Rattle.bridge_read.specs.Reading.{Gives, here, list_of};
 ghost use Rattle.bridge_read.specs.forms.Attrs.{condition_called, condition_keys, condition_under, condition_within, condition_word, argument_of, digits, literal_called, literal_keys, literal_under, literal_word, no_attrs, sole_char};
 
@@ -16,7 +16,7 @@ use bridge_ast::{
     Assign, Attrs, Boxed, DiplomatBackendAttr, DiplomatBackendAttrCfg, Items, Lit, Meta, MetaValue,
     RenameAttr, RenameFault, Text,
 };
-use lent_json::value::Json;
+use serde_json::Value;
 use std::alloc::Global;
 
 fn wrong(alloc: Global) -> ReadFault
@@ -41,8 +41,8 @@ fn condition_called(word: &str) -> Option<DiplomatBackendAttrCfg>
 
 /// A condition for which a word stands.
 #[tactic(auto, unfolding(crate::specs::forms::Attrs::condition_word))]
-fn condition_word(alloc: Global, value: &Json<'_, '_>) -> Result<DiplomatBackendAttrCfg, ReadFault>
-    ensures { Gives result (condition_word.read (data_at value.now)) }
+fn condition_word(alloc: Global, value: &Value) -> Result<DiplomatBackendAttrCfg, ReadFault>
+    ensures { Gives result (condition_word.read (view value.now)) }
 {
     condition_called(text(alloc, value)?).ok_or(wrong(alloc))
 }
@@ -51,10 +51,10 @@ fn condition_word(alloc: Global, value: &Json<'_, '_>) -> Result<DiplomatBackend
 #[cycle(conditions)]
 fn condition_list(
     alloc: Global,
-    value: &Json<'_, '_>,
+    value: &Value,
     levels: usize,
 ) -> Result<Items<DiplomatBackendAttrCfg>, ReadFault>
-    ensures { Gives result (list_of (condition_within levels).read (data_at value.now)) }
+    ensures { Gives result (list_of (condition_within levels).read (view value.now)) }
 {
     let entries = entries(alloc, value)?;
     let mut list = room_for(alloc, entries.len())?;
@@ -69,10 +69,10 @@ fn condition_list(
 fn condition_under(
     alloc: Global,
     key: Key,
-    value: &Json<'_, '_>,
+    value: &Value,
     levels: usize,
 ) -> Result<DiplomatBackendAttrCfg, ReadFault>
-    ensures { Gives result ((condition_under (condition_within levels) key).read (data_at value.now)) }
+    ensures { Gives result ((condition_under (condition_within levels) key).read (view value.now)) }
 {
     match key {
         Key::Backend => Ok(DiplomatBackendAttrCfg::BackendName(Text::from_form(alloc, value)?)),
@@ -94,10 +94,10 @@ fn condition_under(
 #[cycle(conditions)]
 fn condition_within(
     alloc: Global,
-    value: &Json<'_, '_>,
+    value: &Value,
     levels: usize,
 ) -> Result<DiplomatBackendAttrCfg, ReadFault>
-    ensures { Gives result ((condition_within levels).read (data_at value.now)) }
+    ensures { Gives result ((condition_within levels).read (view value.now)) }
 {
     let Some(inner) = levels.checked_sub(1) else {
         return Err(wrong(alloc));
@@ -108,7 +108,7 @@ fn condition_within(
     let keys = condition_keys();
     only(alloc, value, keys)?;
     let (key, found) = sole(alloc, value, keys)?;
-    in_member(alloc, key, condition_under(alloc, key, &found, inner))
+    in_member(alloc, key, condition_under(alloc, key, found, inner))
 }
 
 /// The keys of conditions.
@@ -124,7 +124,7 @@ impl FromForm for DiplomatBackendAttrCfg {
 
     ghost form = { condition.read };
 
-    fn from_form(alloc: Global, value: &Json<'_, '_>) -> Result<DiplomatBackendAttrCfg, ReadFault> {
+    fn from_form(alloc: Global, value: &Value) -> Result<DiplomatBackendAttrCfg, ReadFault> {
         condition_within(alloc, value, 128)
     }
 }
@@ -156,8 +156,8 @@ fn are_digits(bytes: &[u8]) -> bool
 
 /// A text of one or more decimal digits.
 #[tactic(auto, unfolding(crate::specs::forms::Attrs::digits))]
-fn digits(alloc: Global, value: &Json<'_, '_>) -> Result<Text, ReadFault>
-    ensures { Gives result (digits.read (data_at value.now)) }
+fn digits(alloc: Global, value: &Value) -> Result<Text, ReadFault>
+    ensures { Gives result (digits.read (view value.now)) }
 {
     let written = text(alloc, value)?;
     if written.is_empty() || !are_digits(written.as_bytes()) {
@@ -168,8 +168,8 @@ fn digits(alloc: Global, value: &Json<'_, '_>) -> Result<Text, ReadFault>
 
 /// The literal for which a word stands: `other`.
 #[tactic(auto, unfolding(crate::specs::forms::Attrs::literal_word, crate::specs::forms::Attrs::literal_called))]
-fn literal_word(alloc: Global, value: &Json<'_, '_>) -> Result<Lit, ReadFault>
-    ensures { Gives result (literal_word.read (data_at value.now)) }
+fn literal_word(alloc: Global, value: &Value) -> Result<Lit, ReadFault>
+    ensures { Gives result (literal_word.read (view value.now)) }
 {
     if text(alloc, value)? == "other" {
         Ok(Lit::Other)
@@ -179,8 +179,8 @@ fn literal_word(alloc: Global, value: &Json<'_, '_>) -> Result<Lit, ReadFault>
 }
 
 /// What stands under the key of a literal, by the key.
-fn literal_under(alloc: Global, key: Key, value: &Json<'_, '_>) -> Result<Lit, ReadFault>
-    ensures { Gives result ((literal_under key).read (data_at value.now)) }
+fn literal_under(alloc: Global, key: Key, value: &Value) -> Result<Lit, ReadFault>
+    ensures { Gives result ((literal_under key).read (view value.now)) }
 {
     match key {
         Key::Bool => Ok(Lit::Bool(bool::from_form(alloc, value)?)),
@@ -219,14 +219,14 @@ impl FromForm for Lit {
 
     ghost form = { literal.read };
 
-    fn from_form(alloc: Global, value: &Json<'_, '_>) -> Result<Lit, ReadFault> {
+    fn from_form(alloc: Global, value: &Value) -> Result<Lit, ReadFault> {
         if let Some(_) = value.as_str() {
             return literal_word(alloc, value);
         }
         let keys = literal_keys();
         only(alloc, value, keys)?;
         let (key, found) = sole(alloc, value, keys)?;
-        in_member(alloc, key, literal_under(alloc, key, &found))
+        in_member(alloc, key, literal_under(alloc, key, found))
     }
 }
 
@@ -236,7 +236,7 @@ impl FromForm for Assign {
 
     ghost form = { assign.read };
 
-    fn from_form(alloc: Global, value: &Json<'_, '_>) -> Result<Assign, ReadFault> {
+    fn from_form(alloc: Global, value: &Value) -> Result<Assign, ReadFault> {
         only(alloc, value, &[Key::Name, Key::Value])?;
         Ok(Assign {
             name: needed(alloc, value, Key::Name)?,
@@ -263,7 +263,7 @@ impl FromForm for DiplomatBackendAttr {
 
     ghost form = { mark.read };
 
-    fn from_form(alloc: Global, value: &Json<'_, '_>) -> Result<DiplomatBackendAttr, ReadFault> {
+    fn from_form(alloc: Global, value: &Value) -> Result<DiplomatBackendAttr, ReadFault> {
         only(
             alloc,
             value,
@@ -289,7 +289,7 @@ impl FromForm for RenameAttr {
 
     ghost form = { pattern.read };
 
-    fn from_form(alloc: Global, value: &Json<'_, '_>) -> Result<RenameAttr, ReadFault> {
+    fn from_form(alloc: Global, value: &Value) -> Result<RenameAttr, ReadFault> {
         match RenameAttr::new(alloc, text(alloc, value)?) {
             Ok(attr) => Ok(attr),
             Err(RenameFault::Pattern) => Err(wrong(alloc)),
@@ -304,7 +304,7 @@ impl FromForm for Attrs {
 
     ghost form = { attrs.read };
 
-    fn from_form(alloc: Global, value: &Json<'_, '_>) -> Result<Attrs, ReadFault> {
+    fn from_form(alloc: Global, value: &Value) -> Result<Attrs, ReadFault> {
         only(
             alloc,
             value,

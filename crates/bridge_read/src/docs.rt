@@ -1,7 +1,7 @@
 //! The documentation of declarations.
 
 ghost use Rattle.std.specs.Prelude.{◌≡◌};
-ghost use Rattle.lent_json.specs.Read.{data_at};
+ghost use Rattle.serde_json.specs.View.{view};
 ghost use Rattle.bridge_read.specs.Form.{read_alone};
 ghost use Rattle.bridge_read.specs.Reading.{Gives};
 ghost use Rattle.bridge_read.specs.forms.Docs.{no_docs, documented};
@@ -12,7 +12,7 @@ use crate::keys::Key;
 use crate::objects::only;
 use crate::reading::{FromForm, held, listed, needed};
 use bridge_ast::{Attrs, DocBlock, Docs, Items, RustLink};
-use lent_json::value::Json;
+use serde_json::Value;
 use std::alloc::Global;
 
 #[tactic(auto, unfolding(crate::specs::forms::Docs::block))]
@@ -21,7 +21,7 @@ impl FromForm for DocBlock {
 
     ghost form = { block.read };
 
-    fn from_form(alloc: Global, value: &Json<'_, '_>) -> Result<DocBlock, ReadFault> {
+    fn from_form(alloc: Global, value: &Value) -> Result<DocBlock, ReadFault> {
         only(alloc, value, &[Key::Condition, Key::Lines])?;
         Ok(DocBlock {
             cfg: needed(alloc, value, Key::Condition)?,
@@ -36,7 +36,7 @@ impl FromForm for RustLink {
 
     ghost form = { link.read };
 
-    fn from_form(alloc: Global, value: &Json<'_, '_>) -> Result<RustLink, ReadFault> {
+    fn from_form(alloc: Global, value: &Value) -> Result<RustLink, ReadFault> {
         only(alloc, value, &[Key::Path, Key::Kind, Key::Display])?;
         Ok(RustLink {
             path: needed(alloc, value, Key::Path)?,
@@ -52,7 +52,7 @@ impl FromForm for Docs {
 
     ghost form = { docs.read };
 
-    fn from_form(alloc: Global, value: &Json<'_, '_>) -> Result<Docs, ReadFault> {
+    fn from_form(alloc: Global, value: &Value) -> Result<Docs, ReadFault> {
         only(alloc, value, &[Key::Blocks, Key::Links])?;
         Ok(Docs {
             blocks: listed(alloc, value, Key::Blocks)?,
@@ -73,8 +73,8 @@ pub fn no_docs(alloc: Global) -> Docs
 
 /// The documentation and the attributes of a declaration.
 #[tactic(auto, unfolding(crate::specs::forms::Docs::documented))]
-pub fn documented(alloc: Global, value: &Json<'_, '_>) -> Result<(Docs, Attrs), ReadFault>
-    ensures { Gives result (read_alone documented (data_at value.now)) }
+pub fn documented(alloc: Global, value: &Value) -> Result<(Docs, Attrs), ReadFault>
+    ensures { Gives result (read_alone documented (view value.now)) }
 {
     let docs = held(alloc, value, Key::Docs, no_docs(alloc))?;
     let attrs = held(alloc, value, Key::Attrs, no_attrs(alloc))?;

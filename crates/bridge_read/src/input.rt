@@ -1,18 +1,23 @@
 //! The whole input: declarations, a backend, a configuration, and where documentation lies.
 
-ghost use Rattle.std.specs.Prelude.{◌≡◌, Err, IfErr, IfOk, length};
+ghost use Rattle.std.specs.Prelude.{◌≡◌, [], ℕ, List, Err, IfErr, IfOk, Some, length, slice_get};
 ghost use Rattle.std.specs.List.{All};
 ghost use Rattle.serde_json.specs.Data.{Data};
-ghost use Rattle.lent_json.specs.Read.{data_at};
+ghost use Rattle.serde_json.specs.View.{view};
 ghost use Rattle.bridge_ast.specs.EnvFaults.{faults_of};
+ghost use Rattle.bridge_decl.specs.declared.modules.Module.{Module as Declarations};
 ghost use Rattle.bridge_read.specs.declared.input.Declared.{Declared as Spelled};
+ghost use Rattle.bridge_read.specs.declared.pointer.Step.{Step as Way};
 ghost use Rattle.bridge_read.specs.declared.input.Input.{Input as Given};
 ghost use Rattle.bridge_read.specs.declared.input.InputFault.TheVariants.{NoMemory as no_memory};
-ghost use Rattle.bridge_read.specs.Inputs.{GivesEnv, GivesForm, IsJsonOf, IsNoJson, IsReadAs, IsToldOf, SpellsInput, Tells, fault_of, kind_of};
+ghost use Rattle.bridge_read.specs.Agree.{CutsNothing};
+ghost use Rattle.bridge_read.specs.Inputs.{IsJsonOf, IsReadAs, IsToldOf, Refuses, SpellsInput, Tells, all_faults, fault_of, kind_of};
+ghost use Rattle.bridge_read.specs.ModulePlaces.{LeadsTo};
 ghost use Rattle.bridge_read.specs.Parents.{LacksParent};
 ghost use Rattle.bridge_read.specs.Pointers.{module_pointers};
-ghost use Rattle.bridge_read.specs.Reading.{here};
+ghost use Rattle.bridge_read.specs.TruePlaces.{IsPlaced};
 ghost use Rattle.bridge_read.specs.forms.Inputs.{no_backend, whole};
+ghost use Rattle.bridge_read.specs.inside.Answers.{GivesEnv, GivesForm, IsNoJson};
 
 use crate::fault::{InputKind, ReadFault};
 use crate::keys::Key;
@@ -25,9 +30,7 @@ use bridge_ast::{Env, EnvFault, EnvFaultKind, EnvPlace, NoMemory, Text};
 use hir_attrs::BasicAttributeValidator;
 use hir_docs::DocsUrlGenerator;
 use hir_lower::LoweringConfig;
-use json::Scratch;
-use lent_json::document::{Document, NotRead};
-use lent_json::value::Json;
+use serde_json::Value;
 use std::alloc::{AllocError, Global};
 
 /// What an input declares, of which it isn't known whether its modules fit together.
@@ -91,7 +94,7 @@ impl FromForm for Declared {
 
     ghost form = { whole.read };
 
-    fn from_form(alloc: Global, value: &Json<'_, '_>) -> Result<Declared, ReadFault> {
+    fn from_form(alloc: Global, value: &Value) -> Result<Declared, ReadFault> {
         only(
             alloc,
             value,
@@ -116,35 +119,21 @@ fn fault_at(alloc: Global, kind: InputKind, at: Pointer) -> InputFault
     }
 }
 
-/// That the bytes are no JSON text.
-fn not_json(alloc: Global) -> InputFault
-    ensures { Tells result (here InputKind.NotJson) }
-{
-    fault_at(alloc, InputKind::NotJson, Pointer::here(alloc))
-}
-
-/// The JSON text that the bytes are.
-fn document_of<'a>(
-    alloc: Global,
-    bytes: &'a [u8],
-    scratch: &'a mut Scratch,
-) -> Result<Document<'a>, InputFault>
-    ensures ok { IfOk result (λ document. IsJsonOf bytes.now (data_at document)) }
+/// The JSON value of the bytes.
+fn json_value(alloc: Global, bytes: &[u8]) -> Result<Value, InputFault>
+    ensures ok { IfOk result (λ value. IsJsonOf bytes.now (view value)) }
     ensures not_json { IfErr result (λ fault. IsNoJson bytes.now fault) }
 {
-    let Ok(text) = str::from_utf8(bytes) else {
-        return Err(not_json(alloc));
-    };
-    match Document::read(alloc, text, scratch) {
-        Ok(document) => Ok(document),
-        Err(NotRead::NotJson) => Err(not_json(alloc)),
-        Err(NotRead::NoMemory) => Err(InputFault::NoMemory),
+    match Value::from_slice(alloc, bytes) {
+        Ok(value) => Ok(value),
+        Err(error) if error.is_memory() => Err(InputFault::NoMemory),
+        Err(_) => Err(fault_at(alloc, InputKind::NotJson, Pointer::here(alloc))),
     }
 }
 
 /// What the value declares.
-fn declared_in(alloc: Global, value: &Json<'_, '_>) -> Result<Declared, InputFault>
-    ensures { GivesForm result (data_at value.now) }
+fn declared_in(alloc: Global, value: &Value) -> Result<Declared, InputFault>
+    ensures { GivesForm result (view value.now) }
 {
     match Declared::from_form(alloc, value) {
         Ok(declared) => Ok(declared),
@@ -170,11 +159,11 @@ fn kind_of(kind: EnvFaultKind) -> InputKind
 /// A fault between the declarations of a value.
 fn fault_between(
     alloc: Global,
-    value: &Json<'_, '_>,
+    value: &Value,
     kind: EnvFaultKind,
     at: EnvPlace,
 ) -> InputFault
-    ensures { Tells result (fault_of (data_at value.now) kind at) }
+    ensures { Tells result (fault_of (view value.now) kind at) }
 {
     match place_pointer(alloc, value, at) {
         Ok(pointer) => fault_at(alloc, kind_of(kind), pointer),
@@ -183,8 +172,8 @@ fn fault_between(
 }
 
 /// The environment of the modules that a value declares.
-fn env_of(alloc: Global, value: &Json<'_, '_>, modules: ModuleList) -> Result<Env, InputFault>
-    ensures { GivesEnv result (data_at value.now) modules }
+fn env_of(alloc: Global, value: &Value, modules: ModuleList) -> Result<Env, InputFault>
+    ensures { GivesEnv result (view value.now) modules }
 {
     match Env::new(alloc, modules.into_vec()) {
         Ok(env) => Ok(env),
@@ -198,6 +187,7 @@ fn env_of(alloc: Global, value: &Json<'_, '_>, modules: ModuleList) -> Result<En
 /// `NotDeclarations` comes exactly where they spell none, and tells the first fault: the bytes are no JSON text; else the first
 /// place where their value hasn't the form, as it is read in order; else the first place where the declarations don't fit
 /// together. `NoMemory` comes where memory runs out.
+#[tactic(auto, using(crate::proofs::InputLaws::json_refuses))]
 pub fn read_input(alloc: Global, bytes: &[u8]) -> Result<Input, InputFault>
     // What is read is spelled so.
     ensures spelled { IfOk result (λ input. SpellsInput bytes.now input) }
@@ -205,17 +195,30 @@ pub fn read_input(alloc: Global, bytes: &[u8]) -> Result<Input, InputFault>
     ensures only { (input : Given) → SpellsInput bytes.now input → IsReadAs result input }
     // The fault that is told is the first.
     ensures told { IfErr result (λ fault. IsToldOf bytes.now fault) }
-    // Each module has its pointer, so that the place of a fault is never one that is made up.
-    ensures placed { (input : Given) (value : Data) → SpellsInput bytes.now input → IsJsonOf bytes.now value
-        → length input.env ≡ length (module_pointers value) }
+    // Bytes are refused only where they spell no input, and those that spell one have no fault.
+    ensures refused { IfErr result (λ fault. Refuses bytes.now fault) }
+    ensures faultless { (value : Data) (input : Given) → SpellsInput bytes.now input
+        → IsJsonOf bytes.now value → all_faults value ≡ [] }
+    // Each module that a value declares has its pointer, which leads to the object that spells it.
+    ensures counted { (value : Data) (declared : Spelled) → whole.Spells value declared
+        → length declared.modules ≡ length (module_pointers value) }
+    ensures pointed { (value : Data) (declared : Spelled) (n : ℕ) (m : Declarations)
+        → whole.Spells value declared → slice_get declared.modules n ≡ Some m
+        → (steps : List Way) × (slice_get (module_pointers value) n ≡ Some steps)
+        × LeadsTo value steps m }
+    // A fault between declarations is told of a place that there is.
+    ensures placed { (modules : List Declarations)
+        → All (IsPlaced modules) (faults_of modules) }
     // Each module that a value declares stands after the one that it is in, so `wrong form` is never told of a missing parent.
-    ensures parents { (value : Data) (declared : Spelled) → whole.Spells value declared → All (λ fault. ¬ LacksParent fault) (faults_of declared.modules) }
+    ensures parents { (value : Data) (declared : Spelled) → whole.Spells value declared
+        → All (λ fault. ¬ LacksParent fault) (faults_of declared.modules) }
+    // Types, conditions and modules may nest as deep as a text may.
+    ensures uncut { CutsNothing }
     // No bytes spell two inputs.
-    ensures once { (one other : Given) → SpellsInput bytes.now one → SpellsInput bytes.now other → one ≡ other }
+    ensures once { (one other : Given) → SpellsInput bytes.now one → SpellsInput bytes.now other
+        → one ≡ other }
 {
-    let mut scratch = Scratch::new(alloc);
-    let document = document_of(alloc, bytes, &mut scratch)?;
-    let value = document.value();
+    let value = json_value(alloc, bytes)?;
     let declared = declared_in(alloc, &value)?;
     let env = env_of(alloc, &value, declared.modules)?;
     Ok(Input {

@@ -1,7 +1,7 @@
 //! Items, whose keys depend on their kind.
 
 ghost use Rattle.std.specs.Prelude.{◌≡◌};
-ghost use Rattle.lent_json.specs.Read.{data_at};
+ghost use Rattle.serde_json.specs.View.{view};
 ghost use Rattle.bridge_read.specs.Form.{object_with};
 ghost use Rattle.bridge_read.specs.Reading.{Gives};
 ghost use Rattle.bridge_read.specs.forms.Items.{struct_parts, opaque_parts, enum_parts, trait_parts, function_parts};
@@ -15,7 +15,7 @@ use crate::objects::{object, only};
 use crate::reading::{FromForm, flag_under, listed, needed, optional};
 use crate::words::ItemKind;
 use bridge_ast::{Enum, Field, Function, Item, LifetimeEnv, OpaqueType, Struct, Trait, Variant};
-use lent_json::value::Json;
+use serde_json::Value;
 use std::alloc::Global;
 
 #[tactic(auto, unfolding(crate::specs::forms::Items::field, crate::specs::forms::Docs::documented))]
@@ -24,7 +24,7 @@ impl FromForm for Field {
 
     ghost form = { field.read };
 
-    fn from_form(alloc: Global, value: &Json<'_, '_>) -> Result<Field, ReadFault> {
+    fn from_form(alloc: Global, value: &Value) -> Result<Field, ReadFault> {
         only(alloc, value, &[Key::Name, Key::Ty, Key::Docs, Key::Attrs])?;
         let name = needed(alloc, value, Key::Name)?;
         let ty = needed(alloc, value, Key::Ty)?;
@@ -44,7 +44,7 @@ impl FromForm for Variant {
 
     ghost form = { variant.read };
 
-    fn from_form(alloc: Global, value: &Json<'_, '_>) -> Result<Variant, ReadFault> {
+    fn from_form(alloc: Global, value: &Value) -> Result<Variant, ReadFault> {
         only(
             alloc,
             value,
@@ -64,8 +64,8 @@ impl FromForm for Variant {
 
 /// A struct, or an out-struct.
 #[tactic(auto, unfolding(crate::specs::forms::Docs::documented))]
-fn struct_item(alloc: Global, value: &Json<'_, '_>, output_only: bool) -> Result<Item, ReadFault>
-    ensures { Gives result ((object_with (struct_parts output_only)).read (data_at value.now)) }
+fn struct_item(alloc: Global, value: &Value, output_only: bool) -> Result<Item, ReadFault>
+    ensures { Gives result ((object_with (struct_parts output_only)).read (view value.now)) }
 {
     only(
         alloc,
@@ -98,8 +98,8 @@ fn struct_item(alloc: Global, value: &Json<'_, '_>, output_only: bool) -> Result
 
 /// An opaque.
 #[tactic(auto, unfolding(crate::specs::forms::Items::opaque_parts, crate::specs::forms::Docs::documented))]
-fn opaque(alloc: Global, value: &Json<'_, '_>) -> Result<Item, ReadFault>
-    ensures { Gives result ((object_with opaque_parts).read (data_at value.now)) }
+fn opaque(alloc: Global, value: &Value) -> Result<Item, ReadFault>
+    ensures { Gives result ((object_with opaque_parts).read (view value.now)) }
 {
     only(
         alloc,
@@ -134,8 +134,8 @@ fn opaque(alloc: Global, value: &Json<'_, '_>) -> Result<Item, ReadFault>
 
 /// An enum.
 #[tactic(auto, unfolding(crate::specs::forms::Items::enum_parts, crate::specs::forms::Docs::documented))]
-fn enum_item(alloc: Global, value: &Json<'_, '_>) -> Result<Item, ReadFault>
-    ensures { Gives result ((object_with enum_parts).read (data_at value.now)) }
+fn enum_item(alloc: Global, value: &Value) -> Result<Item, ReadFault>
+    ensures { Gives result ((object_with enum_parts).read (view value.now)) }
 {
     only(
         alloc,
@@ -164,8 +164,8 @@ fn enum_item(alloc: Global, value: &Json<'_, '_>) -> Result<Item, ReadFault>
 
 /// A trait.
 #[tactic(auto, unfolding(crate::specs::forms::Items::trait_parts, crate::specs::forms::Docs::documented))]
-fn trait_item(alloc: Global, value: &Json<'_, '_>) -> Result<Item, ReadFault>
-    ensures { Gives result ((object_with trait_parts).read (data_at value.now)) }
+fn trait_item(alloc: Global, value: &Value) -> Result<Item, ReadFault>
+    ensures { Gives result ((object_with trait_parts).read (view value.now)) }
 {
     only(
         alloc,
@@ -200,8 +200,8 @@ fn trait_item(alloc: Global, value: &Json<'_, '_>) -> Result<Item, ReadFault>
 
 /// A function.
 #[tactic(auto, unfolding(crate::specs::forms::Items::function_parts, crate::specs::forms::Methods::signature, crate::specs::forms::Docs::documented))]
-fn function(alloc: Global, value: &Json<'_, '_>) -> Result<Item, ReadFault>
-    ensures { Gives result ((object_with function_parts).read (data_at value.now)) }
+fn function(alloc: Global, value: &Value) -> Result<Item, ReadFault>
+    ensures { Gives result ((object_with function_parts).read (view value.now)) }
 {
     only(
         alloc,
@@ -240,7 +240,7 @@ impl FromForm for Item {
 
     ghost form = { item_form.read };
 
-    fn from_form(alloc: Global, value: &Json<'_, '_>) -> Result<Item, ReadFault> {
+    fn from_form(alloc: Global, value: &Value) -> Result<Item, ReadFault> {
         object(alloc, value)?;
         match needed(alloc, value, Key::Kind)? {
             ItemKind::Struct => struct_item(alloc, value, false),

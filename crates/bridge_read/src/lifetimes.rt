@@ -8,7 +8,7 @@ use crate::keys::Key;
 use crate::objects::only;
 use crate::reading::{FromForm, flag_under, listed, needed, needed_some, text};
 use bridge_ast::{Lifetime, LifetimeNode, Mutability, NoMemory, PathType, Text};
-use lent_json::value::Json;
+use serde_json::Value;
 use std::alloc::Global;
 
 #[tactic(auto, unfolding(crate::specs::forms::Lifetimes::node))]
@@ -17,7 +17,7 @@ impl FromForm for LifetimeNode {
 
     ghost form = { node.read };
 
-    fn from_form(alloc: Global, value: &Json<'_, '_>) -> Result<LifetimeNode, ReadFault> {
+    fn from_form(alloc: Global, value: &Value) -> Result<LifetimeNode, ReadFault> {
         only(alloc, value, &[Key::Name, Key::Longer, Key::Shorter])?;
         Ok(LifetimeNode {
             name: needed(alloc, value, Key::Name)?,
@@ -47,7 +47,7 @@ impl FromForm for Lifetime {
 
     ghost form = { lifetime.read };
 
-    fn from_form(alloc: Global, value: &Json<'_, '_>) -> Result<Lifetime, ReadFault> {
+    fn from_form(alloc: Global, value: &Value) -> Result<Lifetime, ReadFault> {
         Ok(lifetime_called(alloc, text(alloc, value)?)?)
     }
 }
@@ -69,7 +69,7 @@ impl FromForm for (Lifetime, Mutability) {
 
     ghost form = { reference.read };
 
-    fn from_form(alloc: Global, value: &Json<'_, '_>) -> Result<(Lifetime, Mutability), ReadFault> {
+    fn from_form(alloc: Global, value: &Value) -> Result<(Lifetime, Mutability), ReadFault> {
         only(alloc, value, &[Key::Lifetime, Key::Mutable])?;
         let lifetime = needed(alloc, value, Key::Lifetime)?;
         let mutable = flag_under(alloc, value, Key::Mutable)?;
@@ -83,7 +83,7 @@ impl FromForm for PathType {
 
     ghost form = { path.read };
 
-    fn from_form(alloc: Global, value: &Json<'_, '_>) -> Result<PathType, ReadFault> {
+    fn from_form(alloc: Global, value: &Value) -> Result<PathType, ReadFault> {
         only(alloc, value, &[Key::Segments, Key::Lifetimes])?;
         Ok(PathType {
             segments: needed_some(alloc, value, Key::Segments)?,

@@ -1,7 +1,7 @@
 //! Parameters, receivers and methods.
 
 ghost use Rattle.std.specs.Prelude.{◌≡◌, IfOk};
-ghost use Rattle.lent_json.specs.Read.{data_at};
+ghost use Rattle.serde_json.specs.View.{view};
 ghost use Rattle.bridge_read.specs.Form.{read_alone};
 ghost use Rattle.bridge_read.specs.Reading.{Gives};
 ghost use Rattle.bridge_read.specs.forms.Methods.{method_head, or_else, signature, trait_signature};
@@ -16,7 +16,7 @@ use bridge_ast::{
     Items, LifetimeEnv, LifetimeNode, Method, NoMemory, Param, PathType, SelfParam, Text,
     TraitMethod, TraitSelfParam, TypeName,
 };
-use lent_json::value::Json;
+use serde_json::Value;
 use std::alloc::Global;
 
 /// The name that is given, or the one that its absence stands for.
@@ -35,7 +35,7 @@ impl FromForm for Param {
 
     ghost form = { param.read };
 
-    fn from_form(alloc: Global, value: &Json<'_, '_>) -> Result<Param, ReadFault> {
+    fn from_form(alloc: Global, value: &Value) -> Result<Param, ReadFault> {
         only(alloc, value, &[Key::Name, Key::Ty, Key::Attrs])?;
         Ok(Param {
             name: needed(alloc, value, Key::Name)?,
@@ -51,7 +51,7 @@ impl FromForm for SelfParam {
 
     ghost form = { receiver.read };
 
-    fn from_form(alloc: Global, value: &Json<'_, '_>) -> Result<SelfParam, ReadFault> {
+    fn from_form(alloc: Global, value: &Value) -> Result<SelfParam, ReadFault> {
         only(alloc, value, &[Key::Reference, Key::Path, Key::Attrs])?;
         Ok(SelfParam {
             reference: optional(alloc, value, Key::Reference)?,
@@ -74,8 +74,8 @@ pub struct Signature {
 
 /// The signature of a method or function.
 #[tactic(auto, unfolding(crate::specs::forms::Methods::signature))]
-pub fn signed(alloc: Global, value: &Json<'_, '_>) -> Result<Signature, ReadFault>
-    ensures { Gives result (read_alone signature (data_at value.now)) }
+pub fn signed(alloc: Global, value: &Value) -> Result<Signature, ReadFault>
+    ensures { Gives result (read_alone signature (view value.now)) }
 {
     Ok(Signature {
         nodes: listed(alloc, value, Key::Lifetimes)?,
@@ -99,8 +99,8 @@ pub struct MethodHead {
 
 /// What stands before the signature of a method.
 #[tactic(auto, unfolding(crate::specs::forms::Methods::method_head))]
-fn method_head(alloc: Global, value: &Json<'_, '_>) -> Result<MethodHead, ReadFault>
-    ensures { Gives result (read_alone method_head (data_at value.now)) }
+fn method_head(alloc: Global, value: &Value) -> Result<MethodHead, ReadFault>
+    ensures { Gives result (read_alone method_head (view value.now)) }
 {
     let name = needed(alloc, value, Key::Name)?;
     let abi_name = optional(alloc, value, Key::AbiName)?;
@@ -120,7 +120,7 @@ impl FromForm for Method {
 
     ghost form = { method.read };
 
-    fn from_form(alloc: Global, value: &Json<'_, '_>) -> Result<Method, ReadFault> {
+    fn from_form(alloc: Global, value: &Value) -> Result<Method, ReadFault> {
         only(
             alloc,
             value,
@@ -161,7 +161,7 @@ impl FromForm for TraitSelfParam {
 
     ghost form = { trait_receiver.read };
 
-    fn from_form(alloc: Global, value: &Json<'_, '_>) -> Result<TraitSelfParam, ReadFault> {
+    fn from_form(alloc: Global, value: &Value) -> Result<TraitSelfParam, ReadFault> {
         only(alloc, value, &[Key::Reference, Key::Path])?;
         Ok(TraitSelfParam {
             reference: optional(alloc, value, Key::Reference)?,
@@ -185,8 +185,8 @@ pub struct TraitSignature {
 
 /// What stands between the name of a trait's method and its documentation.
 #[tactic(auto, unfolding(crate::specs::forms::Methods::trait_signature))]
-fn trait_signed(alloc: Global, value: &Json<'_, '_>) -> Result<TraitSignature, ReadFault>
-    ensures { Gives result (read_alone trait_signature (data_at value.now)) }
+fn trait_signed(alloc: Global, value: &Value) -> Result<TraitSignature, ReadFault>
+    ensures { Gives result (read_alone trait_signature (view value.now)) }
 {
     Ok(TraitSignature {
         nodes: listed(alloc, value, Key::Lifetimes)?,
@@ -202,7 +202,7 @@ impl FromForm for TraitMethod {
 
     ghost form = { trait_method.read };
 
-    fn from_form(alloc: Global, value: &Json<'_, '_>) -> Result<TraitMethod, ReadFault> {
+    fn from_form(alloc: Global, value: &Value) -> Result<TraitMethod, ReadFault> {
         only(
             alloc,
             value,

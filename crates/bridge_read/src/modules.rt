@@ -1,7 +1,7 @@
 //! Modules, which nest, as one list.
 
 ghost use Rattle.std.specs.Prelude.{◌≡◌, ◌+◌, [], ◌∷◌, ◌++◌, length, IfOk, OnOk};
-ghost use Rattle.lent_json.specs.Read.{data_at};
+ghost use Rattle.serde_json.specs.View.{view};
 ghost use Rattle.bridge_read.specs.Form.{object_with, read_alone};
 ghost use Rattle.bridge_read.specs.Reading.{Gives, held};
 ghost use Rattle.bridge_read.specs.forms.Modules.{contents, module_of, module_parts, module_within, name_of, nested_in, path_in, root};
@@ -12,7 +12,7 @@ use crate::keys::Key;
 use crate::objects::{in_entry, in_member, only, under};
 use crate::reading::{FromForm, entries, held, listed, needed, text};
 use bridge_ast::{Alias, Attrs, Item, Items, Module, NoMemory, Text};
-use lent_json::value::Json;
+use serde_json::Value;
 use std::alloc::{AllocError, Global};
 use std::marker::Model;
 
@@ -22,7 +22,7 @@ impl FromForm for Alias {
 
     ghost form = { alias.read };
 
-    fn from_form(alloc: Global, value: &Json<'_, '_>) -> Result<Alias, ReadFault> {
+    fn from_form(alloc: Global, value: &Value) -> Result<Alias, ReadFault> {
         only(alloc, value, &[Key::Name, Key::Target])?;
         Ok(Alias {
             name: needed(alloc, value, Key::Name)?,
@@ -44,8 +44,8 @@ pub struct Contents {
 
 /// What stands in a module besides other modules.
 #[tactic(auto, unfolding(crate::specs::forms::Modules::contents))]
-fn contents_in(alloc: Global, value: &Json<'_, '_>) -> Result<Contents, ReadFault>
-    ensures { Gives result (read_alone contents (data_at value.now)) }
+fn contents_in(alloc: Global, value: &Value) -> Result<Contents, ReadFault>
+    ensures { Gives result (read_alone contents (view value.now)) }
 {
     Ok(Contents {
         attrs: held(alloc, value, Key::Attrs, no_attrs(alloc))?,
@@ -61,15 +61,15 @@ impl FromForm for () {
 
     ghost form = { any_text.read };
 
-    fn from_form(alloc: Global, value: &Json<'_, '_>) -> Result<(), ReadFault> {
+    fn from_form(alloc: Global, value: &Value) -> Result<(), ReadFault> {
         text(alloc, value)?;
         Ok(())
     }
 }
 
 /// The name of a module, as it is written.
-fn name_of<'a>(value: &Json<'_, 'a>) -> &'a str
-    ensures { result.now ≡ name_of (data_at value.now) }
+fn name_of<'a>(value: &'a Value) -> &'a str
+    ensures { result.now ≡ name_of (view value.now) }
 {
     match under(value, Key::Name) {
         Some(found) => match found.as_str() {
@@ -101,9 +101,9 @@ fn path_in(
     alloc: Global,
     room: &mut usize,
     parent: &[Text],
-    value: &Json<'_, '_>,
+    value: &Value,
 ) -> Result<Items<Text>, NoMemory>
-    ensures { IfOk result (λ path. path ≡ path_in parent.now (data_at value.now)) }
+    ensures { IfOk result (λ path. path ≡ path_in parent.now (view value.now)) }
 {
     let mut path = Items::new(alloc);
     for segment in parent {
@@ -193,11 +193,11 @@ fn module_of(
 fn inner_modules(
     alloc: Global,
     room: &mut usize,
-    value: &Json<'_, '_>,
+    value: &Value,
     path: &[Text],
     levels: usize,
 ) -> Result<ModuleList, ReadFault>
-    ensures { Gives result ((nested_in levels path.now).read (data_at value.now)) }
+    ensures { Gives result ((nested_in levels path.now).read (view value.now)) }
 {
     let mut modules = ModuleList::new(alloc);
     let entries = entries(alloc, value)?;
@@ -213,17 +213,17 @@ fn inner_modules(
 fn nested_modules(
     alloc: Global,
     room: &mut usize,
-    value: &Json<'_, '_>,
+    value: &Value,
     path: &[Text],
     levels: usize,
 ) -> Result<ModuleList, ReadFault>
-    ensures { Gives result (held [] (nested_in levels path.now).read Key.Modules (data_at value.now)) }
+    ensures { Gives result (held [] (nested_in levels path.now).read Key.Modules (view value.now)) }
 {
     match under(value, Key::Modules) {
         Some(found) => in_member(
             alloc,
             Key::Modules,
-            inner_modules(alloc, room, &found, path, levels),
+            inner_modules(alloc, room, found, path, levels),
         ),
         None => Ok(ModuleList::new(alloc)),
     }
@@ -235,11 +235,11 @@ fn nested_modules(
 fn module_object(
     alloc: Global,
     room: &mut usize,
-    value: &Json<'_, '_>,
+    value: &Value,
     parent: &[Text],
     levels: usize,
 ) -> Result<ModuleList, ReadFault>
-    ensures { Gives result ((object_with (module_parts (nested_in levels) parent.now)).read (data_at value.now)) }
+    ensures { Gives result ((object_with (module_parts (nested_in levels) parent.now)).read (view value.now)) }
 {
     only(
         alloc,
@@ -264,11 +264,11 @@ fn module_object(
 fn module_within(
     alloc: Global,
     room: &mut usize,
-    value: &Json<'_, '_>,
+    value: &Value,
     parent: &[Text],
     levels: usize,
 ) -> Result<ModuleList, ReadFault>
-    ensures { Gives result ((module_within levels parent.now).read (data_at value.now)) }
+    ensures { Gives result ((module_within levels parent.now).read (view value.now)) }
 {
     match levels.checked_sub(1) {
         Some(inner) => module_object(alloc, room, value, parent, inner),
@@ -278,8 +278,8 @@ fn module_within(
 
 /// The root, with all other modules after it.
 #[tactic(auto, unfolding(crate::specs::forms::Modules::root, crate::specs::forms::Modules::contents))]
-fn root(alloc: Global, value: &Json<'_, '_>) -> Result<ModuleList, ReadFault>
-    ensures { Gives result (root.read (data_at value.now)) }
+fn root(alloc: Global, value: &Value) -> Result<ModuleList, ReadFault>
+    ensures { Gives result (root.read (view value.now)) }
 {
     only(
         alloc,
@@ -297,7 +297,7 @@ impl FromForm for ModuleList {
 
     ghost form = { root.read };
 
-    fn from_form(alloc: Global, value: &Json<'_, '_>) -> Result<ModuleList, ReadFault> {
+    fn from_form(alloc: Global, value: &Value) -> Result<ModuleList, ReadFault> {
         root(alloc, value)
     }
 }

@@ -1,13 +1,9 @@
 //! Objects and lists of the form, whatever they spell.
 
 ghost use Rattle.std.specs.Prelude.{◌≡◌, [], ◌∷◌, option_map, Err, Result};
-ghost use Rattle.lent_json.specs.Objects.{members_at};
-ghost use Rattle.lent_json.specs.Read.{data_at};
+ghost use Rattle.serde_json.specs.View.{view, items_view, members_view};
 ghost use Rattle.bridge_read.specs.declared.fault.Fault.{Fault as Wrong};
 ghost use Rattle.bridge_read.specs.declared.pointer.Step.TheVariants as step;
-ghost use Rattle.json.specs.Json.{Members as Written};
-ghost use Rattle.lent_json.specs.Objects.{IsObject};
-ghost use Rattle.bridge_read.specs.Known.{are_known};
 ghost use Rattle.bridge_read.specs.Form.{live, members_in, object_of, sole};
 ghost use Rattle.bridge_read.specs.Reading.{Gives, GivesBy, here, inside, under, only, is_one_of, known, at_key, Stops};
 
@@ -15,15 +11,13 @@ use crate::fault::{Fault, InputKind, ReadFault};
 use crate::keys::Key;
 use crate::pointer::Step;
 use bridge_ast::Text;
-use lent_json::object::Members;
-use lent_json::value::Json;
+use serde_json::{Map, Value};
 use std::alloc::Global;
-use std::collections::BTreeMap;
 
 /// What stands under a key of an object; none where the key is absent or null.
 #[tactic(auto, unfolding(crate::specs::Reading::under))]
-pub fn under<'t, 'a>(value: &Json<'t, 'a>, key: Key) -> Option<Json<'t, 'a>>
-    ensures { option_map (λ v. data_at v) result ≡ under key (data_at value.now) }
+pub fn under(value: &Value, key: Key) -> Option<&Value>
+    ensures { option_map (λ v. view v.now) result ≡ under key (view value.now) }
 {
     match value.get(key.text()) {
         Some(found) if !found.is_null() => Some(found),
@@ -82,12 +76,8 @@ fn is_one_of(keys: &[Key], text: &str) -> bool
     false
 }
 
-fn known(
-    alloc: Global,
-    keys: &[Key],
-    members: &BTreeMap<String, Json<'_, '_>>,
-) -> Result<(), ReadFault>
-    ensures { Gives result (known keys.now (members_at members.now.entries)) }
+fn known(alloc: Global, keys: &[Key], members: &Map<String, Value>) -> Result<(), ReadFault>
+    ensures { Gives result (known keys.now (members_view members.now.entries)) }
 {
     for (name, _) in members {
         if !is_one_of(keys, name.as_str()) {
@@ -98,12 +88,12 @@ fn known(
 }
 
 /// The one key of these under which something stands, with what stands there.
-pub fn sole<'t, 'a>(
+pub fn sole<'v>(
     alloc: Global,
-    value: &Json<'t, 'a>,
+    value: &'v Value,
     keys: &[Key],
-) -> Result<(Key, Json<'t, 'a>), ReadFault>
-    ensures { GivesBy (λ one. (one.0, data_at one.1)) result (sole (live keys.now (data_at value.now))) }
+) -> Result<(Key, &'v Value), ReadFault>
+    ensures { GivesBy (λ one. (one.0, view one.1.now)) result (sole (live keys.now (view value.now))) }
 {
     let mut found = None;
     for key in keys {
@@ -120,50 +110,34 @@ pub fn sole<'t, 'a>(
     }
 }
 
-/// The members of an object by their names, in order.
+/// The members of an object.
 #[tactic(auto, unfolding(crate::specs::Form::members_in))]
-pub fn members<'t, 'a>(
-    alloc: Global,
-    value: &Json<'t, 'a>,
-) -> Result<BTreeMap<String, Json<'t, 'a>>, ReadFault>
-    ensures { GivesBy (λ ms. members_at ms.entries) result (members_in (data_at value.now)) }
+pub fn members(alloc: Global, value: &Value) -> Result<&Map<String, Value>, ReadFault>
+    ensures { GivesBy (λ ms. members_view ms.now.entries) result (members_in (view value.now)) }
 {
-    match value.members() {
-        Some(members) => Ok(members.in_order(alloc)?),
+    match value.as_object() {
+        Some(members) => Ok(members),
         None => Err(ReadFault::Bad(Fault::here(alloc, InputKind::WrongForm))),
     }
 }
 
-/// Whether all names of the members are among the keys.
-fn are_known(members: &mut Members<'_, '_>, keys: &[Key]) -> bool
-    ensures { (ms : Written) → IsObject members.old ms → result ≡ are_known keys.now ms }
-{
-    while let Some((name, _)) = members.next() {
-        if !is_one_of(keys, name) {
-            return false;
-        }
-    }
-    true
-}
-
 /// Tests that the value is an object in which no other keys stand.
-pub fn only(alloc: Global, value: &Json<'_, '_>, keys: &[Key]) -> Result<(), ReadFault>
-    ensures { Gives result (only keys.now (data_at value.now)) }
+#[tactic(auto, unfolding(crate::specs::Reading::only))]
+pub fn only(alloc: Global, value: &Value, keys: &[Key]) -> Result<(), ReadFault>
+    ensures { Gives result (only keys.now (view value.now)) }
 {
-    if let Some(mut written) = value.members() {
-        if are_known(&mut written, keys) {
-            return Ok(());
-        }
+    match value.as_object() {
+        Some(members) => known(alloc, keys, members),
+        None => Err(ReadFault::Bad(Fault::here(alloc, InputKind::WrongForm))),
     }
-    known(alloc, keys, &members(alloc, value)?)
 }
 
 /// Tests that the value is an object.
 #[tactic(auto, unfolding(crate::specs::Form::object_of))]
-pub fn object(alloc: Global, value: &Json<'_, '_>) -> Result<(), ReadFault>
-    ensures { Gives result (object_of (data_at value.now)) }
+pub fn object(alloc: Global, value: &Value) -> Result<(), ReadFault>
+    ensures { Gives result (object_of (view value.now)) }
 {
-    match value.members() {
+    match value.as_object() {
         Some(_) => Ok(()),
         None => Err(ReadFault::Bad(Fault::here(alloc, InputKind::WrongForm))),
     }

@@ -1,9 +1,9 @@
 //! Where the parts of declarations stand in the JSON value that spells them.
 
 ghost use Rattle.std.specs.Prelude.{◌≡◌, ◌∷◌, ◌++◌, [], List, IfOk, slice_index_or};
-ghost use Rattle.lent_json.specs.Lists.{items_at};
-ghost use Rattle.lent_json.specs.Read.{data_at};
-ghost use Rattle.bridge_read.specs.Places.{Searches};
+ghost use Rattle.serde_json.specs.View.{items_view};
+ghost use Rattle.serde_json.specs.View.{view};
+ghost use Rattle.bridge_read.specs.inside.Places.{Searches};
 ghost use Rattle.bridge_read.specs.Pointers.{entry, in_entries, items_of, method_steps, module_pointers, modules_within, part_steps, place_steps};
 ghost use Rattle.bridge_read.specs.Reading.{at_key};
 
@@ -11,7 +11,7 @@ use crate::keys::Key;
 use crate::objects::under;
 use crate::pointer::{Pointer, Step};
 use bridge_ast::{EnvPart, EnvPlace, NoMemory, Text};
-use lent_json::value::Json;
+use serde_json::Value;
 use std::alloc::Global;
 
 /// How a search for the module of a number ends.
@@ -39,12 +39,12 @@ fn entry(alloc: Global, key: Key, number: usize, pointer: Pointer) -> Result<Poi
 
 /// The entries of a list; none of anything else.
 #[tactic(auto, unfolding(crate::specs::Pointers::items_of))]
-fn list_in<'t, 'a>(alloc: Global, value: &Json<'t, 'a>) -> Result<Vec<Json<'t, 'a>>, NoMemory>
-    ensures { IfOk result (λ list. items_at list.items ≡ items_of (data_at value.now)) }
+fn list_in(value: &Value) -> &[Value]
+    ensures { items_view result.now ≡ items_of (view value.now) }
 {
-    match value.list(alloc)? {
-        Some(list) => Ok(list),
-        None => Ok(Vec::new(alloc)),
+    match value.as_array() {
+        Some(list) => list.as_slice(),
+        None => &[],
     }
 }
 
@@ -52,11 +52,11 @@ fn list_in<'t, 'a>(alloc: Global, value: &Json<'t, 'a>) -> Result<Vec<Json<'t, '
 #[cycle(places)]
 fn module_within(
     alloc: Global,
-    value: &Json<'_, '_>,
+    value: &Value,
     levels: usize,
     number: usize,
 ) -> Result<Search, NoMemory>
-    ensures { IfOk result (λ search. Searches (modules_within levels (data_at value.now)) number search) }
+    ensures { IfOk result (λ search. Searches (modules_within levels (view value.now)) number search) }
 {
     let Some(inner) = levels.checked_sub(1) else {
         return Ok(Search::Left(number));
@@ -67,8 +67,7 @@ fn module_within(
     let Some(modules) = under(value, Key::Modules) else {
         return Ok(Search::Left(rest));
     };
-    let list = list_in(alloc, &modules)?;
-    match module_in(alloc, list.as_slice(), inner, rest)? {
+    match module_in(alloc, list_in(modules), inner, rest)? {
         Search::Found(pointer) => Ok(Search::Found(under_key(alloc, Key::Modules, pointer)?)),
         Search::Left(left) => Ok(Search::Left(left)),
     }
@@ -78,11 +77,11 @@ fn module_within(
 #[cycle(places)]
 fn module_in(
     alloc: Global,
-    list: &[Json<'_, '_>],
+    list: &[Value],
     levels: usize,
     number: usize,
 ) -> Result<Search, NoMemory>
-    ensures { IfOk result (λ search. Searches (in_entries (modules_within levels) 0 (items_at list.now)) number search) }
+    ensures { IfOk result (λ search. Searches (in_entries (modules_within levels) 0 (items_view list.now)) number search) }
 {
     let mut left = number;
     for (place, entry) in list.iter().enumerate() {
@@ -97,13 +96,13 @@ fn module_in(
 }
 
 /// The pointer of the module of a number; that of the whole where there is no such module.
-fn module_pointer(alloc: Global, value: &Json<'_, '_>, number: usize) -> Result<Pointer, NoMemory>
-    ensures { IfOk result (λ pointer. pointer ≡ slice_index_or (module_pointers (data_at value.now)) number []) }
+fn module_pointer(alloc: Global, value: &Value, number: usize) -> Result<Pointer, NoMemory>
+    ensures { IfOk result (λ pointer. pointer ≡ slice_index_or (module_pointers (view value.now)) number []) }
 {
     let Some(root) = under(value, Key::Root) else {
         return Ok(Pointer::here(alloc));
     };
-    match module_within(alloc, &root, 65, number)? {
+    match module_within(alloc, root, 65, number)? {
         Search::Found(pointer) => under_key(alloc, Key::Root, pointer),
         Search::Left(_) => Ok(Pointer::here(alloc)),
     }
@@ -136,8 +135,8 @@ fn part_pointer(alloc: Global, part: EnvPart) -> Result<Pointer, NoMemory>
 }
 
 /// The pointer of a place of the modules that the value spells.
-pub fn place_pointer(alloc: Global, value: &Json<'_, '_>, at: EnvPlace) -> Result<Pointer, NoMemory>
-    ensures { IfOk result (λ pointer. pointer ≡ place_steps (module_pointers (data_at value.now)) at) }
+pub fn place_pointer(alloc: Global, value: &Value, at: EnvPlace) -> Result<Pointer, NoMemory>
+    ensures { IfOk result (λ pointer. pointer ≡ place_steps (module_pointers (view value.now)) at) }
 {
     let inner = part_pointer(alloc, at.part)?;
     module_pointer(alloc, value, at.module)?.followed_by(inner)

@@ -1,16 +1,15 @@
 //! What can be read from a JSON value.
 
 ghost use Rattle.std.specs.Prelude.{◌≡◌, [], false, option_map, IfOk, Ok};
-ghost use Rattle.lent_json.specs.Lists.{items_at};
-ghost use Rattle.lent_json.specs.Read.{data_at};
-ghost use Rattle.bridge_read.specs.Form.{two_in, two_of};
+ghost use Rattle.serde_json.specs.View.{view, items_view};
+ghost use Rattle.bridge_read.specs.Form.{two_of};
 ghost use Rattle.bridge_read.specs.Reading.{Gives, GivesBy, Stops, here, within, inside, under, needed, optional, held, list_of, each_of, entries_of, at_key, text_of, flag_of, some_of};
 
 use crate::fault::{Fault, InputKind, ReadFault};
 use crate::keys::Key;
 use crate::objects::{in_entry, in_member, under};
 use bridge_ast::{Items, NoMemory, Text};
-use lent_json::value::Json;
+use serde_json::Value;
 use std::alloc::Global;
 
 /// What a JSON value of a form spells.
@@ -23,14 +22,14 @@ pub trait FromForm: Drop {
     ghost form: { Data → Result Self Wrong };
 
     /// What the value is read as, or its first fault.
-    fn from_form(alloc: Global, value: &Json<'_, '_>) -> Result<Self, ReadFault>
-        ensures { Gives result (form (data_at value.now)) };
+    fn from_form(alloc: Global, value: &Value) -> Result<Self, ReadFault>
+        ensures { Gives result (form (view value.now)) };
 }
 
 /// The text that a value is, lent.
 #[tactic(auto, unfolding(crate::specs::Reading::text_of))]
-pub fn text<'a>(alloc: Global, value: &Json<'_, 'a>) -> Result<&'a str, ReadFault>
-    ensures { GivesBy (λ s. s.now) result (text_of (data_at value.now)) }
+pub fn text(alloc: Global, value: &Value) -> Result<&str, ReadFault>
+    ensures { GivesBy (λ s. s.now) result (text_of (view value.now)) }
 {
     match value.as_str() {
         Some(text) => Ok(text),
@@ -39,36 +38,31 @@ pub fn text<'a>(alloc: Global, value: &Json<'_, 'a>) -> Result<&'a str, ReadFaul
 }
 
 /// What stands under a key that is required.
-pub fn needed<T: FromForm>(alloc: Global, value: &Json<'_, '_>, key: Key) -> Result<T, ReadFault>
-    ensures { Gives result (needed T.form key (data_at value.now)) }
+pub fn needed<T: FromForm>(alloc: Global, value: &Value, key: Key) -> Result<T, ReadFault>
+    ensures { Gives result (needed T.form key (view value.now)) }
 {
     match under(value, key) {
-        Some(found) => in_member(alloc, key, T::from_form(alloc, &found)),
+        Some(found) => in_member(alloc, key, T::from_form(alloc, found)),
         None => Err(ReadFault::Bad(Fault::here(alloc, InputKind::MissingKey))),
     }
 }
 
 /// What stands under a key, if anything does.
-pub fn optional<T: FromForm>(
-    alloc: Global,
-    value: &Json<'_, '_>,
-    key: Key,
-) -> Result<Option<T>, ReadFault>
-    ensures { Gives result (optional T.form key (data_at value.now)) }
+pub fn optional<T: FromForm>(alloc: Global, value: &Value, key: Key) -> Result<Option<T>, ReadFault>
+    ensures { Gives result (optional T.form key (view value.now)) }
 {
     match under(value, key) {
-        Some(found) => Ok(Some(in_member(alloc, key, T::from_form(alloc, &found))?)),
+        Some(found) => Ok(Some(in_member(alloc, key, T::from_form(alloc, found))?)),
         None => Ok(None),
     }
 }
 
-/// The entries of the list that the value is.
 #[tactic(auto, unfolding(crate::specs::Reading::entries_of))]
-pub fn entries<'t, 'a>(alloc: Global, value: &Json<'t, 'a>) -> Result<Vec<Json<'t, 'a>>, ReadFault>
-    ensures { GivesBy (λ vs. items_at vs.items) result (entries_of (data_at value.now)) }
+pub fn entries(alloc: Global, value: &Value) -> Result<&[Value], ReadFault>
+    ensures { GivesBy (λ vs. items_view vs.now) result (entries_of (view value.now)) }
 {
-    match value.list(alloc)? {
-        Some(list) => Ok(list),
+    match value.as_array() {
+        Some(list) => Ok(list.as_slice()),
         None => Err(ReadFault::Bad(Fault::here(alloc, InputKind::WrongForm))),
     }
 }
@@ -80,8 +74,8 @@ pub fn room_for<T>(alloc: Global, count: usize) -> Result<Items<T>, NoMemory>
     Ok(Items::from_vec(Vec::with_capacity(alloc, count)?))
 }
 
-fn list_of<T: FromForm>(alloc: Global, value: &Json<'_, '_>) -> Result<Items<T>, ReadFault>
-    ensures { Gives result (list_of T.form (data_at value.now)) }
+fn list_of<T: FromForm>(alloc: Global, value: &Value) -> Result<Items<T>, ReadFault>
+    ensures { Gives result (list_of T.form (view value.now)) }
 {
     let entries = entries(alloc, value)?;
     let mut list = room_for(alloc, entries.len())?;
@@ -91,8 +85,8 @@ fn list_of<T: FromForm>(alloc: Global, value: &Json<'_, '_>) -> Result<Items<T>,
     Ok(list)
 }
 
-fn some_list_of<T: FromForm>(alloc: Global, value: &Json<'_, '_>) -> Result<Items<T>, ReadFault>
-    ensures { Gives result (some_of (list_of T.form) (data_at value.now)) }
+fn some_list_of<T: FromForm>(alloc: Global, value: &Value) -> Result<Items<T>, ReadFault>
+    ensures { Gives result (some_of (list_of T.form) (view value.now)) }
 {
     let list = list_of(alloc, value)?;
     if list.as_slice().is_empty() {
@@ -104,33 +98,24 @@ fn some_list_of<T: FromForm>(alloc: Global, value: &Json<'_, '_>) -> Result<Item
 impl<T: FromForm> FromForm for Items<T> {
     ghost form = { list_of T.form };
 
-    fn from_form(alloc: Global, value: &Json<'_, '_>) -> Result<Items<T>, ReadFault> {
+    fn from_form(alloc: Global, value: &Value) -> Result<Items<T>, ReadFault> {
         list_of(alloc, value)
     }
 }
 
 /// What stands under a key, or what its absence stands for.
-pub fn held<T: FromForm>(
-    alloc: Global,
-    value: &Json<'_, '_>,
-    key: Key,
-    absent: T,
-) -> Result<T, ReadFault>
-    ensures { Gives result (held absent T.form key (data_at value.now)) }
+pub fn held<T: FromForm>(alloc: Global, value: &Value, key: Key, absent: T) -> Result<T, ReadFault>
+    ensures { Gives result (held absent T.form key (view value.now)) }
 {
     match under(value, key) {
-        Some(found) => in_member(alloc, key, T::from_form(alloc, &found)),
+        Some(found) => in_member(alloc, key, T::from_form(alloc, found)),
         None => Ok(absent),
     }
 }
 
 /// The list under a key; the empty one where nothing stands there.
-pub fn listed<T: FromForm>(
-    alloc: Global,
-    value: &Json<'_, '_>,
-    key: Key,
-) -> Result<Items<T>, ReadFault>
-    ensures { Gives result (held [] (list_of T.form) key (data_at value.now)) }
+pub fn listed<T: FromForm>(alloc: Global, value: &Value, key: Key) -> Result<Items<T>, ReadFault>
+    ensures { Gives result (held [] (list_of T.form) key (view value.now)) }
 {
     held(alloc, value, key, Items::new(alloc))
 }
@@ -138,20 +123,20 @@ pub fn listed<T: FromForm>(
 /// The list under a key that is required, which isn't empty.
 pub fn needed_some<T: FromForm>(
     alloc: Global,
-    value: &Json<'_, '_>,
+    value: &Value,
     key: Key,
 ) -> Result<Items<T>, ReadFault>
-    ensures { Gives result (needed (some_of (list_of T.form)) key (data_at value.now)) }
+    ensures { Gives result (needed (some_of (list_of T.form)) key (view value.now)) }
 {
     match under(value, key) {
-        Some(found) => in_member(alloc, key, some_list_of(alloc, &found)),
+        Some(found) => in_member(alloc, key, some_list_of(alloc, found)),
         None => Err(ReadFault::Bad(Fault::here(alloc, InputKind::MissingKey))),
     }
 }
 
 /// Whether `true` stands under a key.
-pub fn flag_under(alloc: Global, value: &Json<'_, '_>, key: Key) -> Result<bool, ReadFault>
-    ensures { Gives result (held false flag_of key (data_at value.now)) }
+pub fn flag_under(alloc: Global, value: &Value, key: Key) -> Result<bool, ReadFault>
+    ensures { Gives result (held false flag_of key (view value.now)) }
 {
     held(alloc, value, key, false)
 }
@@ -162,7 +147,7 @@ impl FromForm for Text {
 
     ghost form = { text_of };
 
-    fn from_form(alloc: Global, value: &Json<'_, '_>) -> Result<Text, ReadFault> {
+    fn from_form(alloc: Global, value: &Value) -> Result<Text, ReadFault> {
         Ok(Text::new(alloc, text(alloc, value)?)?)
     }
 }
@@ -173,7 +158,7 @@ impl FromForm for usize {
 
     ghost form = { number_of };
 
-    fn from_form(alloc: Global, value: &Json<'_, '_>) -> Result<usize, ReadFault> {
+    fn from_form(alloc: Global, value: &Value) -> Result<usize, ReadFault> {
         match value.as_u64() {
             Some(number) => Ok(number as usize),
             None => Err(ReadFault::Bad(Fault::here(alloc, InputKind::WrongForm))),
@@ -187,7 +172,7 @@ impl FromForm for bool {
 
     ghost form = { flag_of };
 
-    fn from_form(alloc: Global, value: &Json<'_, '_>) -> Result<bool, ReadFault> {
+    fn from_form(alloc: Global, value: &Value) -> Result<bool, ReadFault> {
         match value.as_bool() {
             Some(set) => Ok(set),
             None => Err(ReadFault::Bad(Fault::here(alloc, InputKind::WrongForm))),
@@ -201,7 +186,7 @@ impl FromForm for u8 {
 
     ghost form = { byte_of };
 
-    fn from_form(alloc: Global, value: &Json<'_, '_>) -> Result<u8, ReadFault> {
+    fn from_form(alloc: Global, value: &Value) -> Result<u8, ReadFault> {
         match value.as_u64() {
             Some(number) if number < 256 => Ok(number as u8),
             _ => Err(ReadFault::Bad(Fault::here(alloc, InputKind::WrongForm))),
@@ -215,7 +200,7 @@ impl FromForm for i64 {
 
     ghost form = { integer_of };
 
-    fn from_form(alloc: Global, value: &Json<'_, '_>) -> Result<i64, ReadFault> {
+    fn from_form(alloc: Global, value: &Value) -> Result<i64, ReadFault> {
         match value.as_i64() {
             Some(number) => Ok(number),
             None => Err(ReadFault::Bad(Fault::here(alloc, InputKind::WrongForm))),
@@ -223,11 +208,11 @@ impl FromForm for i64 {
     }
 }
 
-/// The two entries, where there are as many.
-fn both_of<T: FromForm>(alloc: Global, entries: &[Json<'_, '_>]) -> Result<(T, T), ReadFault>
-    ensures { Gives result (two_in T.form (items_at entries.now)) }
+/// The entries of a list of two.
+pub fn two<T: FromForm>(alloc: Global, value: &Value) -> Result<(T, T), ReadFault>
+    ensures { Gives result (two_of T.form (view value.now)) }
 {
-    match entries {
+    match entries(alloc, value)? {
         [] => Err(ReadFault::Bad(Fault::here(alloc, InputKind::WrongForm))),
         [_] => Err(ReadFault::Bad(Fault::here(alloc, InputKind::WrongForm))),
         [first, second] => {
@@ -237,12 +222,4 @@ fn both_of<T: FromForm>(alloc: Global, entries: &[Json<'_, '_>]) -> Result<(T, T
         }
         [_, _, _, ..] => Err(ReadFault::Bad(Fault::here(alloc, InputKind::WrongForm))),
     }
-}
-
-/// The entries of a list of two.
-pub fn two<T: FromForm>(alloc: Global, value: &Json<'_, '_>) -> Result<(T, T), ReadFault>
-    ensures { Gives result (two_of T.form (data_at value.now)) }
-{
-    let entries = entries(alloc, value)?;
-    both_of(alloc, entries.as_slice())
 }

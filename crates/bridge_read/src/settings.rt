@@ -1,7 +1,7 @@
 //! What an input says besides declarations: the backend, the configuration, and where documentation lies.
 
 ghost use Rattle.std.specs.Prelude.{◌≡◌, []};
-ghost use Rattle.lent_json.specs.Read.{data_at};
+ghost use Rattle.serde_json.specs.View.{view};
 ghost use Rattle.hir_attrs.specs.Support.{no_flags};
 ghost use Rattle.bridge_read.specs.Form.{read_alone};
 ghost use Rattle.bridge_read.specs.Reading.{Gives};
@@ -16,7 +16,7 @@ use bridge_ast::{Items, NoMemory, Text};
 use hir_attrs::{BackendAttrSupport, BasicAttributeValidator, SupportFlag};
 use hir_docs::DocsUrlGenerator;
 use hir_lower::LoweringConfig;
-use lent_json::value::Json;
+use serde_json::Value;
 use std::alloc::Global;
 use std::collections::BTreeMap;
 use std::marker::Model;
@@ -43,7 +43,7 @@ impl FromForm for SupportFlag {
 
     ghost form = { support_flag.read };
 
-    fn from_form(alloc: Global, value: &Json<'_, '_>) -> Result<SupportFlag, ReadFault> {
+    fn from_form(alloc: Global, value: &Value) -> Result<SupportFlag, ReadFault> {
         one_word(alloc, value)
     }
 }
@@ -66,7 +66,7 @@ impl FromForm for BackendAttrSupport {
 
     ghost form = { supported.read };
 
-    fn from_form(alloc: Global, value: &Json<'_, '_>) -> Result<BackendAttrSupport, ReadFault> {
+    fn from_form(alloc: Global, value: &Value) -> Result<BackendAttrSupport, ReadFault> {
         let flags = Items::from_form(alloc, value)?;
         Ok(turned_on(flags.as_slice()))
     }
@@ -78,7 +78,7 @@ impl FromForm for (Text, Text) {
 
     ghost form = { name_value.read };
 
-    fn from_form(alloc: Global, value: &Json<'_, '_>) -> Result<(Text, Text), ReadFault> {
+    fn from_form(alloc: Global, value: &Value) -> Result<(Text, Text), ReadFault> {
         only(alloc, value, &[Key::Name, Key::Value])?;
         let name = needed(alloc, value, Key::Name)?;
         let value = needed(alloc, value, Key::Value)?;
@@ -91,8 +91,8 @@ type BackendNames = (Text, Items<Text>, BackendAttrSupport);
 
 /// The keys that the backend begins with.
 #[tactic(auto, unfolding(crate::specs::forms::Settings::backend_names))]
-fn backend_names(alloc: Global, value: &Json<'_, '_>) -> Result<BackendNames, ReadFault>
-    ensures { Gives result (read_alone backend_names (data_at value.now)) }
+fn backend_names(alloc: Global, value: &Value) -> Result<BackendNames, ReadFault>
+    ensures { Gives result (read_alone backend_names (view value.now)) }
 {
     let name = held(alloc, value, Key::Name, Text::new(alloc, "")?)?;
     let others = listed(alloc, value, Key::OtherNames)?;
@@ -108,7 +108,7 @@ impl FromForm for BasicAttributeValidator {
 
     fn from_form(
         alloc: Global,
-        value: &Json<'_, '_>,
+        value: &Value,
     ) -> Result<BasicAttributeValidator, ReadFault> {
         only(
             alloc,
@@ -140,7 +140,7 @@ impl FromForm for LoweringConfig {
 
     ghost form = { config.read };
 
-    fn from_form(alloc: Global, value: &Json<'_, '_>) -> Result<LoweringConfig, ReadFault> {
+    fn from_form(alloc: Global, value: &Value) -> Result<LoweringConfig, ReadFault> {
         only(alloc, value, &[Key::UnsafeReferences])?;
         Ok(LoweringConfig {
             unsafe_references_in_callbacks: flag_under(alloc, value, Key::UnsafeReferences)?,
@@ -199,10 +199,9 @@ impl FromForm for Bases {
 
     ghost form = { bases.read };
 
-    fn from_form(alloc: Global, value: &Json<'_, '_>) -> Result<Bases, ReadFault> {
+    fn from_form(alloc: Global, value: &Value) -> Result<Bases, ReadFault> {
         let mut bases = Bases::new(alloc);
-        let members = members(alloc, value)?;
-        for (name, entry) in &members {
+        for (name, entry) in members(alloc, value)? {
             if !entry.is_null() {
                 let url = Text::from_form(alloc, entry);
                 let url = in_member_named(alloc, name.as_str(), url)?;
@@ -219,7 +218,7 @@ impl FromForm for DocsUrlGenerator {
 
     ghost form = { urls.read };
 
-    fn from_form(alloc: Global, value: &Json<'_, '_>) -> Result<DocsUrlGenerator, ReadFault> {
+    fn from_form(alloc: Global, value: &Value) -> Result<DocsUrlGenerator, ReadFault> {
         only(alloc, value, &[Key::Default, Key::Bases])?;
         let default = optional(alloc, value, Key::Default)?;
         let bases = held(alloc, value, Key::Bases, Bases::new(alloc))?;

@@ -1,7 +1,7 @@
 //! Types.
 
 ghost use Rattle.std.specs.Prelude.{◌≡◌, IfOk, IfErr, Ok};
-ghost use Rattle.lent_json.specs.Read.{data_at};
+ghost use Rattle.serde_json.specs.View.{view};
 ghost use Rattle.bridge_read.specs.Reading.{Gives, needed, list_of};
 ghost use Rattle.bridge_read.specs.forms.Types.{borrow_read, spelling, type_called, type_word, type_keys, type_under, type_within, written_primitive, writer_called, reference_type, result_type, custom_slice, callback, str_slice, str_list, primitive_slice};
 
@@ -15,7 +15,7 @@ use bridge_ast::{
     Boxed, Items, Lifetime, Mutability, PathType, PrimitiveType, StdlibOrDiplomat, TypeName,
     WriteType,
 };
-use lent_json::value::Json;
+use serde_json::Value;
 use std::alloc::Global;
 
 /// Whose spelling was used.
@@ -45,8 +45,8 @@ fn type_called(word: &str) -> Option<TypeName>
 
 /// A type for which a word stands.
 #[tactic(auto, unfolding(crate::specs::forms::Types::type_word))]
-fn type_word(alloc: Global, value: &Json<'_, '_>) -> Result<TypeName, ReadFault>
-    ensures { Gives result (type_word.read (data_at value.now)) }
+fn type_word(alloc: Global, value: &Value) -> Result<TypeName, ReadFault>
+    ensures { Gives result (type_word.read (view value.now)) }
 {
     match type_called(text(alloc, value)?) {
         Some(ty) => Ok(ty),
@@ -85,7 +85,7 @@ impl FromForm for WriteType {
 
     ghost form = { writer.read };
 
-    fn from_form(alloc: Global, value: &Json<'_, '_>) -> Result<WriteType, ReadFault> {
+    fn from_form(alloc: Global, value: &Value) -> Result<WriteType, ReadFault> {
         match writer_called(text(alloc, value)?) {
             Some(writer) => Ok(writer),
             None => Err(ReadFault::Bad(Fault::here(alloc, InputKind::WrongForm))),
@@ -95,8 +95,8 @@ impl FromForm for WriteType {
 
 /// `{"lifetime": lifetime, "encoding": encoding, "std": bool}`.
 #[tactic(auto, unfolding(crate::specs::forms::Types::str_slice))]
-fn str_slice(alloc: Global, value: &Json<'_, '_>) -> Result<TypeName, ReadFault>
-    ensures { Gives result (str_slice.read (data_at value.now)) }
+fn str_slice(alloc: Global, value: &Value) -> Result<TypeName, ReadFault>
+    ensures { Gives result (str_slice.read (view value.now)) }
 {
     only(alloc, value, &[Key::Lifetime, Key::Encoding, Key::Std])?;
     let lifetime = optional(alloc, value, Key::Lifetime)?;
@@ -107,8 +107,8 @@ fn str_slice(alloc: Global, value: &Json<'_, '_>) -> Result<TypeName, ReadFault>
 
 /// `{"encoding": encoding, "std": bool}`.
 #[tactic(auto, unfolding(crate::specs::forms::Types::str_list))]
-fn str_list(alloc: Global, value: &Json<'_, '_>) -> Result<TypeName, ReadFault>
-    ensures { Gives result (str_list.read (data_at value.now)) }
+fn str_list(alloc: Global, value: &Value) -> Result<TypeName, ReadFault>
+    ensures { Gives result (str_list.read (view value.now)) }
 {
     only(alloc, value, &[Key::Encoding, Key::Std])?;
     let encoding = needed(alloc, value, Key::Encoding)?;
@@ -118,8 +118,8 @@ fn str_list(alloc: Global, value: &Json<'_, '_>) -> Result<TypeName, ReadFault>
 
 /// The lifetime of a slice with its mutability. A slice without a lifetime is owned; that it is mutable is then the wrong form.
 #[tactic(auto, unfolding(crate::specs::forms::Types::written_borrow))]
-fn borrow(alloc: Global, value: &Json<'_, '_>) -> Result<Option<(Lifetime, Mutability)>, ReadFault>
-    ensures { Gives result (borrow_read (data_at value.now)) }
+fn borrow(alloc: Global, value: &Value) -> Result<Option<(Lifetime, Mutability)>, ReadFault>
+    ensures { Gives result (borrow_read (view value.now)) }
 {
     let lifetime = optional(alloc, value, Key::Lifetime)?;
     let mutable = flag_under(alloc, value, Key::Mutable)?;
@@ -135,8 +135,8 @@ fn borrow(alloc: Global, value: &Json<'_, '_>) -> Result<Option<(Lifetime, Mutab
 
 /// `{"lifetime": lifetime, "mutable": bool, "of": primitive type, "std": bool}`.
 #[tactic(auto, unfolding(crate::specs::forms::Types::primitive_slice, crate::specs::forms::Types::borrow, crate::specs::forms::Types::written_borrow))]
-fn primitive_slice(alloc: Global, value: &Json<'_, '_>) -> Result<TypeName, ReadFault>
-    ensures { Gives result (primitive_slice.read (data_at value.now)) }
+fn primitive_slice(alloc: Global, value: &Value) -> Result<TypeName, ReadFault>
+    ensures { Gives result (primitive_slice.read (view value.now)) }
 {
     only(
         alloc,
@@ -151,8 +151,8 @@ fn primitive_slice(alloc: Global, value: &Json<'_, '_>) -> Result<TypeName, Read
 
 /// A type as what a type leads to.
 #[cycle(types)]
-fn boxed(alloc: Global, value: &Json<'_, '_>, levels: usize) -> Result<Boxed<TypeName>, ReadFault>
-    ensures { Gives result ((type_within levels).read (data_at value.now)) }
+fn boxed(alloc: Global, value: &Value, levels: usize) -> Result<Boxed<TypeName>, ReadFault>
+    ensures { Gives result ((type_within levels).read (view value.now)) }
 {
     Ok(Boxed::new(alloc, type_within(alloc, value, levels)?)?)
 }
@@ -161,22 +161,22 @@ fn boxed(alloc: Global, value: &Json<'_, '_>, levels: usize) -> Result<Boxed<Typ
 #[cycle(types)]
 fn needed_type(
     alloc: Global,
-    value: &Json<'_, '_>,
+    value: &Value,
     key: Key,
     levels: usize,
 ) -> Result<Boxed<TypeName>, ReadFault>
-    ensures { Gives result (needed (type_within levels).read key (data_at value.now)) }
+    ensures { Gives result (needed (type_within levels).read key (view value.now)) }
 {
     match under(value, key) {
-        Some(found) => in_member(alloc, key, boxed(alloc, &found, levels)),
+        Some(found) => in_member(alloc, key, boxed(alloc, found, levels)),
         None => Err(ReadFault::Bad(Fault::here(alloc, InputKind::MissingKey))),
     }
 }
 
 /// `{"lifetime": lifetime, "mutable": bool, "to": type}`.
 #[cycle(types)]
-fn reference_type(alloc: Global, value: &Json<'_, '_>, levels: usize) -> Result<TypeName, ReadFault>
-    ensures { Gives result ((reference_type (type_within levels)).read (data_at value.now)) }
+fn reference_type(alloc: Global, value: &Value, levels: usize) -> Result<TypeName, ReadFault>
+    ensures { Gives result ((reference_type (type_within levels)).read (view value.now)) }
 {
     only(alloc, value, &[Key::Lifetime, Key::Mutable, Key::To])?;
     let lifetime = needed(alloc, value, Key::Lifetime)?;
@@ -189,11 +189,11 @@ fn reference_type(alloc: Global, value: &Json<'_, '_>, levels: usize) -> Result<
 #[cycle(types)]
 fn result_type(
     alloc: Global,
-    value: &Json<'_, '_>,
+    value: &Value,
     whose: StdlibOrDiplomat,
     levels: usize,
 ) -> Result<TypeName, ReadFault>
-    ensures { Gives result ((result_type (type_within levels) whose).read (data_at value.now)) }
+    ensures { Gives result ((result_type (type_within levels) whose).read (view value.now)) }
 {
     only(alloc, value, &[Key::OkType, Key::ErrType])?;
     let ok = needed_type(alloc, value, Key::OkType, levels)?;
@@ -204,8 +204,8 @@ fn result_type(
 /// `{"lifetime": lifetime, "mutable": bool, "of": type, "std": bool}`.
 #[cycle(types)]
 #[tactic(auto, unfolding(crate::specs::forms::Types::borrow, crate::specs::forms::Types::written_borrow))]
-fn custom_slice(alloc: Global, value: &Json<'_, '_>, levels: usize) -> Result<TypeName, ReadFault>
-    ensures { Gives result ((custom_slice (type_within levels)).read (data_at value.now)) }
+fn custom_slice(alloc: Global, value: &Value, levels: usize) -> Result<TypeName, ReadFault>
+    ensures { Gives result ((custom_slice (type_within levels)).read (view value.now)) }
 {
     only(
         alloc,
@@ -222,10 +222,10 @@ fn custom_slice(alloc: Global, value: &Json<'_, '_>, levels: usize) -> Result<Ty
 #[cycle(types)]
 fn type_list(
     alloc: Global,
-    value: &Json<'_, '_>,
+    value: &Value,
     levels: usize,
 ) -> Result<Items<TypeName>, ReadFault>
-    ensures { Gives result (list_of (type_within levels).read (data_at value.now)) }
+    ensures { Gives result (list_of (type_within levels).read (view value.now)) }
 {
     let entries = entries(alloc, value)?;
     let mut list = room_for(alloc, entries.len())?;
@@ -237,16 +237,16 @@ fn type_list(
 
 /// `{"params": [types], "ret": type, "mutable": bool}`.
 #[cycle(types)]
-fn callback(alloc: Global, value: &Json<'_, '_>, levels: usize) -> Result<TypeName, ReadFault>
-    ensures { Gives result ((callback (type_within levels)).read (data_at value.now)) }
+fn callback(alloc: Global, value: &Value, levels: usize) -> Result<TypeName, ReadFault>
+    ensures { Gives result ((callback (type_within levels)).read (view value.now)) }
 {
     only(alloc, value, &[Key::Params, Key::Ret, Key::Mutable])?;
     let params = match under(value, Key::Params) {
-        Some(found) => in_member(alloc, Key::Params, type_list(alloc, &found, levels))?,
+        Some(found) => in_member(alloc, Key::Params, type_list(alloc, found, levels))?,
         None => Items::new(alloc),
     };
     let ret = match under(value, Key::Ret) {
-        Some(found) => in_member(alloc, Key::Ret, boxed(alloc, &found, levels))?,
+        Some(found) => in_member(alloc, Key::Ret, boxed(alloc, found, levels))?,
         None => Boxed::new(alloc, TypeName::Unit)?,
     };
     let mutable = flag_under(alloc, value, Key::Mutable)?;
@@ -258,10 +258,10 @@ fn callback(alloc: Global, value: &Json<'_, '_>, levels: usize) -> Result<TypeNa
 fn type_under(
     alloc: Global,
     key: Key,
-    value: &Json<'_, '_>,
+    value: &Value,
     levels: usize,
 ) -> Result<TypeName, ReadFault>
-    ensures { Gives result ((type_under (type_within levels) key).read (data_at value.now)) }
+    ensures { Gives result ((type_under (type_within levels) key).read (view value.now)) }
 {
     match key {
         Key::Named => Ok(TypeName::Named(PathType::from_form(alloc, value)?)),
@@ -291,8 +291,8 @@ fn type_under(
 
 /// A type in which types nest at most so deep.
 #[cycle(types)]
-fn type_within(alloc: Global, value: &Json<'_, '_>, levels: usize) -> Result<TypeName, ReadFault>
-    ensures { Gives result ((type_within levels).read (data_at value.now)) }
+fn type_within(alloc: Global, value: &Value, levels: usize) -> Result<TypeName, ReadFault>
+    ensures { Gives result ((type_within levels).read (view value.now)) }
 {
     let Some(inner) = levels.checked_sub(1) else {
         return Err(ReadFault::Bad(Fault::here(alloc, InputKind::WrongForm)));
@@ -303,7 +303,7 @@ fn type_within(alloc: Global, value: &Json<'_, '_>, levels: usize) -> Result<Typ
     let keys = type_keys();
     only(alloc, value, keys)?;
     let (key, found) = sole(alloc, value, keys)?;
-    in_member(alloc, key, type_under(alloc, key, &found, inner))
+    in_member(alloc, key, type_under(alloc, key, found, inner))
 }
 
 /// The keys of types.
@@ -335,7 +335,7 @@ impl FromForm for TypeName {
 
     ghost form = { type_name.read };
 
-    fn from_form(alloc: Global, value: &Json<'_, '_>) -> Result<TypeName, ReadFault> {
+    fn from_form(alloc: Global, value: &Value) -> Result<TypeName, ReadFault> {
         type_within(alloc, value, 128)
     }
 }

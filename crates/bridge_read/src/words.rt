@@ -1,14 +1,14 @@
 //! The words of the form, each of which stands for one value.
 
 ghost use Rattle.std.specs.Prelude.{◌≡◌, [], ◌∷◌};
-ghost use Rattle.lent_json.specs.Read.{data_at};
+ghost use Rattle.serde_json.specs.View.{view};
 ghost use Rattle.bridge_read.specs.Form.{find_word, one_word};
 ghost use Rattle.bridge_read.specs.Reading.{Gives};
 
 use crate::fault::{Fault, InputKind, ReadFault};
 use crate::reading::{FromForm, text};
 use bridge_ast::{DocType, PrimitiveType, RustLinkDisplay, StringEncoding};
-use lent_json::value::Json;
+use serde_json::Value;
 use std::alloc::Global;
 
 /// Values for which words stand.
@@ -43,8 +43,8 @@ pub fn find_word<W: Word>(word: &str) -> Option<W>
 }
 
 /// The value whose word the JSON value is.
-pub fn one_word<W: Word>(alloc: Global, value: &Json<'_, '_>) -> Result<W, ReadFault>
-    ensures { Gives result ((one_word W.written W.every).read (data_at value.now)) }
+pub fn one_word<W: Word>(alloc: Global, value: &Value) -> Result<W, ReadFault>
+    ensures { Gives result ((one_word W.written W.every).read (view value.now)) }
 {
     match find_word(text(alloc, value)?) {
         Some(word) => Ok(word),
@@ -111,7 +111,7 @@ impl FromForm for PrimitiveType {
 
     ghost form = { primitive_name.read };
 
-    fn from_form(alloc: Global, value: &Json<'_, '_>) -> Result<PrimitiveType, ReadFault> {
+    fn from_form(alloc: Global, value: &Value) -> Result<PrimitiveType, ReadFault> {
         one_word(alloc, value)
     }
 }
@@ -147,7 +147,7 @@ impl FromForm for StringEncoding {
 
     ghost form = { encoding.read };
 
-    fn from_form(alloc: Global, value: &Json<'_, '_>) -> Result<StringEncoding, ReadFault> {
+    fn from_form(alloc: Global, value: &Value) -> Result<StringEncoding, ReadFault> {
         one_word(alloc, value)
     }
 }
@@ -221,7 +221,7 @@ impl FromForm for DocType {
 
     ghost form = { doc_kind.read };
 
-    fn from_form(alloc: Global, value: &Json<'_, '_>) -> Result<DocType, ReadFault> {
+    fn from_form(alloc: Global, value: &Value) -> Result<DocType, ReadFault> {
         one_word(alloc, value)
     }
 }
@@ -257,7 +257,7 @@ impl FromForm for RustLinkDisplay {
 
     ghost form = { display.read };
 
-    fn from_form(alloc: Global, value: &Json<'_, '_>) -> Result<RustLinkDisplay, ReadFault> {
+    fn from_form(alloc: Global, value: &Value) -> Result<RustLinkDisplay, ReadFault> {
         one_word(alloc, value)
     }
 }
@@ -310,7 +310,7 @@ impl FromForm for ItemKind {
 
     ghost form = { (one_word item_kind_text every_item_kind).read };
 
-    fn from_form(alloc: Global, value: &Json<'_, '_>) -> Result<ItemKind, ReadFault> {
+    fn from_form(alloc: Global, value: &Value) -> Result<ItemKind, ReadFault> {
         one_word(alloc, value)
     }
 }

@@ -1,5 +1,5 @@
 use Rattle.std.proofs.Common.{◌≡◌, ◌+◌, ◌*◌, take, Ok}
-use Rattle.lent_json.specs.Lists.{items_at}
+use Rattle.serde_json.specs.View.{items_view}
 use Rattle.bridge_read.specs.Reading.{each_of}
 use Rattle.bridge_read.specs.forms.Attrs.{condition_within}
 use Rattle.bridge_read.proofs.attrs.+conditions.Given as goal
@@ -14,4 +14,4 @@ abbrev pub decreases-condition_under : goal.decreases-condition_under
 decreases-condition_under l = 4 * l.levels + 2
 
 abbrev pub invariant-condition_list-loop-number : goal.invariant-condition_list-loop-number
-invariant-condition_list-loop-number l = each_of (condition_within l.levels).read 0 (items_at (take l.number l.entry-items)) ≡ Ok l.list
+invariant-condition_list-loop-number l = each_of (condition_within l.levels).read 0 (items_view (take l.number l.entries)) ≡ Ok l.list

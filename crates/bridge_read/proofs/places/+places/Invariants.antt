@@ -1,5 +1,5 @@
 use Rattle.std.proofs.Common.{◌≡◌, ◌+◌, ◌*◌, length, take}
-use Rattle.lent_json.specs.Lists.{items_at}
+use Rattle.serde_json.specs.View.{items_view}
 use Rattle.bridge_read.specs.Pointers.{in_entries, modules_within}
 use Rattle.bridge_read.proofs.places.+places.Given as goal
 
@@ -11,4 +11,4 @@ decreases-module_in l = 2 * l.levels + 1
 
 abbrev pub invariant-module_in-loop-place : goal.invariant-module_in-loop-place
 invariant-module_in-loop-place l =
-    l.number ≡ length (in_entries (modules_within l.levels) 0 (items_at (take l.place l.list))) + l.left
+    l.number ≡ length (in_entries (modules_within l.levels) 0 (items_view (take l.place l.list))) + l.left

@@ -1,5 +1,5 @@
 use Rattle.std.proofs.Common.{◌≡◌, ◌+◌, ◌*◌, take, Ok}
-use Rattle.lent_json.specs.Lists.{items_at}
+use Rattle.serde_json.specs.View.{items_view}
 use Rattle.bridge_read.specs.Reading.{each_of}
 use Rattle.bridge_read.specs.forms.Types.{type_within}
 use Rattle.bridge_read.proofs.types.+types.Given as goal
@@ -32,4 +32,4 @@ abbrev pub decreases-type_under : goal.decreases-type_under
 decreases-type_under l = 8 * l.levels + 4
 
 abbrev pub invariant-type_list-loop-number : goal.invariant-type_list-loop-number
-invariant-type_list-loop-number l = each_of (type_within l.levels).read 0 (items_at (take l.number l.entry-items)) ≡ Ok l.list
+invariant-type_list-loop-number l = each_of (type_within l.levels).read 0 (items_view (take l.number l.entries)) ≡ Ok l.list

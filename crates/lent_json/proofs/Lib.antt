@@ -1,9 +1,0 @@
-pub mod Depths
-pub mod Values
-pub mod Finding
-pub mod Members
-pub mod Numbers
-pub mod Lists
-pub mod Objects
-pub mod FittingLaws
-pub mod Documents
