@@ -52,7 +52,7 @@ after_from P before [] holds = tt
 after_from P before (x ∷ xs) holds = (
   subst (λ b. P b x) (append-nil before) (holds 0 x refl),
   after_from P (before ++ x ∷ []) xs
-  (λ n y h. subst (λ b. P b y) (sym (append_assoc before (x ∷ []) (take n xs))) (holds (suc n) y h)),
+      (λ n y h. subst (λ b. P b y) (sym (append_assoc before (x ∷ []) (take n xs))) (holds (suc n) y h)),
 )
 
 -- what follows of it of each element
@@ -274,17 +274,17 @@ module _ (item : ℕ) (method : Option ℕ) (env : LifetimeEnv) where
   lifetimes_to sound =
       after_from (FitsNode item method env.nodes) [] env.nodes
       (λ n node h.
-          let count : length (take n env.nodes) ≡ n = (let lt = slice_get_within env.nodes n node h in omega (arith, length-take-le n env.nodes)) in
-          record {
-            new =
-                none_of_names (nodes_named item method (take n env.nodes)) node.name
-                (subst (λ names. ¬ Contains names node.name) (sym (names_of_nodes (take n env.nodes)))
-                (named_apart name_of_node [] env.nodes n node sound.distinct h));
-            longer_declared = in_range_from n node h Longer (λ to there. sound.bounds.longer_named n to there);
-            shorter_declared = in_range_from n node h Shorter (λ to there. sound.bounds.shorter_named n to there);
-            longer_has_shorter = answered_from n node h Longer (length (take n env.nodes)) count (λ to there. sound.bounds.longer_has_shorter to n there);
-            shorter_has_longer = answered_from n node h Shorter (length (take n env.nodes)) count (λ to there. sound.bounds.shorter_has_longer n to there);
-          })
+      let count : length (take n env.nodes) ≡ n = (let lt = slice_get_within env.nodes n node h in omega (arith, length-take-le n env.nodes)) in
+      record {
+        new =
+            none_of_names (nodes_named item method (take n env.nodes)) node.name
+            (subst (λ names. ¬ Contains names node.name) (sym (names_of_nodes (take n env.nodes)))
+            (named_apart name_of_node [] env.nodes n node sound.distinct h));
+        longer_declared = in_range_from n node h Longer (λ to there. sound.bounds.longer_named n to there);
+        shorter_declared = in_range_from n node h Shorter (λ to there. sound.bounds.shorter_named n to there);
+        longer_has_shorter = answered_from n node h Longer (length (take n env.nodes)) count (λ to there. sound.bounds.longer_has_shorter to n there);
+        shorter_has_longer = answered_from n node h Shorter (length (take n env.nodes)) count (λ to there. sound.bounds.shorter_has_longer n to there);
+      })
 
 -- ---- items
 
@@ -362,16 +362,16 @@ items_to : (m : Module) → AreDistinct (names_in m) → All HasSoundLifetimes m
 items_to m distinct sound =
     after_from FitsItem [] m.items
     (λ n item h.
-        let lifetimes = recursion_from_All IsSoundEnvironment (lifetimes_of item)
-        (All-contains HasSoundLifetimes m.items item sound (contains_at m.items n item h)) in
-        record {
-          new =
-              none_of_names (items_named (take n m.items)) (item_name item)
-              (subst (λ names. ¬ Contains names (item_name item)) (sym (names_after item_name (λ k. part.Item k) [] (take n m.items)))
-              (named_apart item_name [] m.items n item (distinct_left (map item_name m.items) (map (λ (a : Alias). a.name) m.aliases) distinct) h));
-          lifetimes = own_to (length (take n m.items)) item lifetimes;
-          methods = theirs_to (length (take n m.items)) item lifetimes;
-        })
+    let lifetimes = recursion_from_All IsSoundEnvironment (lifetimes_of item)
+    (All-contains HasSoundLifetimes m.items item sound (contains_at m.items n item h)) in
+    record {
+      new =
+          none_of_names (items_named (take n m.items)) (item_name item)
+          (subst (λ names. ¬ Contains names (item_name item)) (sym (names_after item_name (λ k. part.Item k) [] (take n m.items)))
+          (named_apart item_name [] m.items n item (distinct_left (map item_name m.items) (map (λ (a : Alias). a.name) m.aliases) distinct) h));
+      lifetimes = own_to (length (take n m.items)) item lifetimes;
+      methods = theirs_to (length (take n m.items)) item lifetimes;
+    })
 
 aliases_to : (m : Module) → AreDistinct (names_in m) → AllAfter (FitsAlias m.items) [] m.aliases
 aliases_to m distinct =

@@ -29,9 +29,11 @@ use Rattle.bridge_decl.specs.Names.{item_name}
 abbrev pub Named : Type 0
 Named = List ℕ × EnvPart
 
+-- the items of a module by their names
 abbrev pub items_named : List Item → List Named
 items_named items = each_numbered (λ i item. (item_name item, part.Item i)) items
 
+-- and its aliases
 abbrev pub aliases_named : List Alias → List Named
 aliases_named aliases = each_numbered (λ i alias. (alias.name, part.Alias i)) aliases
 
@@ -67,6 +69,7 @@ named_at modules number = slice_index_or (map named_in modules) number []
 
 -- ---- faults
 
+-- the place of a part of the module of a number
 abbrev pub place : ℕ → EnvPart → EnvPlace
 place number what = record { «module» = number; part = what }
 
@@ -117,6 +120,7 @@ method_nodes_of (Enum item) = map (λ method. method.lifetime_env.nodes) item.me
 method_nodes_of (Trait item) = map (λ method. method.lifetimes.nodes) item.methods
 method_nodes_of (Function item) = []
 
+-- those of the lifetimes of a method after the methods before it
 abbrev pub method_faults : ℕ → ℕ → List (List LifetimeNode) → List LifetimeNode → List EnvFault
 method_faults number item before nodes = lifetime_faults number item (Some (length before)) nodes
 
@@ -140,9 +144,11 @@ faults_under before (Some number) name =
     repeats DuplicateItem (place (length before) part.Module) (option_map (place number)
     (meaning_of (named_at before number) name))
 
+-- those of a submodule, by the path of its parent and its last segment
 abbrev pub submodule_faults : List Module → List (List ℕ) × List ℕ → List EnvFault
 submodule_faults before (parent, name) = faults_under before (module_at before parent) name
 
+-- those of a path by what is left of it without its last segment; the root has none
 abbrev pub parent_faults : List Module → Option (List (List ℕ) × List ℕ) → List EnvFault
 parent_faults before None = []
 parent_faults before (Some split) = submodule_faults before split

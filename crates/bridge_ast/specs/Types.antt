@@ -40,8 +40,10 @@ item_seen (custom.Struct item place) = (Struct item.now, place)
 item_seen (custom.Opaque item place) = (Opaque item.now, place)
 item_seen (custom.Enum item place) = (Enum item.now, place)
 
+-- what is found of a type, as an item with its place
 abbrev pub type_seen : Option CustomType → Option (Item × ItemPlace)
 type_seen found = option_map item_seen found
 
+-- what is found of a trait, as its declaration with its place
 abbrev pub trait_seen : Option TraitAt → Option (TraitDeclaration × ItemPlace)
 trait_seen found = option_map (λ t. (t.decl.now, t.place)) found

@@ -1,4 +1,4 @@
-//! Tests of `bridge_ast`: copies, environments, identifiers, patterns of names, and texts as keys.
+//! Tests of `bridge_ast`: the first faults of modules, what paths name, and long chains of aliases.
 //!
 //! They are a crate of their own, since a crate with tests is proved once more with them, and the declarations are large.
 #![tactic(auto)]

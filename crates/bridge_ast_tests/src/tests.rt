@@ -1,5 +1,5 @@
-mod clones;
-mod environment;
-mod idents;
-mod rename;
-mod text;
+mod alias_ends;
+mod declared;
+mod nodes;
+mod resolution;
+mod scopes;

@@ -1,8 +1,8 @@
 //! The declarations of a foreign interface as plain data, and the names in them.
 //!
-//! A *bridge* is a module of Rust whose types and functions other languages may use. This crate has what stands in one, word for
-//! word as it is written and without judging it: one type per kind of declaration, named as in the crate `diplomat_core`,
-//! whose `ast` layer this restates. One example runs through it:
+//! A *bridge* is a module of Rust whose types and functions other languages may use. This crate has what stands in
+//! one, word for word as it is written and without judging it: one type per kind of declaration, named as in the crate
+//! `diplomat_core`, whose `ast` layer this restates. One example runs through it:
 //!
 //! ```text
 //! mod ffi {                                      Module: a path, items, aliases
@@ -15,28 +15,28 @@
 //!
 //! # Types as they are written
 //!
-//! A [`TypeName`] is a tree: `&'a str` is `StrReference(Some(Named("a")), Utf8, ..)`, the receiver's `&'b self` a [`SelfParam`] with
-//! the lifetime `b`, and `Cut<'a>` a [`PathType`] of one segment and one lifetime. What a path names is not known here: that takes all
-//! modules, and is `bridge_ast`'s.
+//! A [`TypeName`] is a tree: `&'a str` is `StrReference(Some(Named("a")), Utf8, ..)`, the receiver's `&'b self` a
+//! [`SelfParam`] with the lifetime `b`, and `Cut<'a>` a [`PathType`] of one segment and one lifetime. What a path
+//! names is not known here: that takes all modules, and is `bridge_ast`'s.
 //!
 //! # Lifetimes and their bounds
 //!
-//! A [`LifetimeEnv`] lists what a declaration declares: for `shorter` first the `'a` of its impl, then its own `'b`. A bound stands at
-//! both of its ends: `'b: 'a` puts the number of `b` among those that are longer at the node of `a`, and that of `a` among
-//! those that are shorter at the node of `b`. `specs/Lifetimes` says when the lifetimes of a declaration fit together
-//! (`IsSoundEnvironment`), for this crate and for all above it.
+//! A [`LifetimeEnv`] lists what a declaration declares: for `shorter` first the `'a` of its impl, then its own `'b`. A
+//! bound stands at both of its ends: `'b: 'a` puts the number of `b` among those that are longer at the node of `a`,
+//! and that of `a` among those that are shorter at the node of `b`. `specs/Lifetimes` says when the lifetimes of a
+//! declaration fit together (`IsSoundEnvironment`), for this crate and for all above it.
 //!
 //! # Names
 //!
-//! A [`Text`] is seen by contracts as the list of its bytes, so two texts are one value where their bytes are the same. An [`IdentBuf`] is a
-//! text that is an identifier of Rust (`shorter`, `r#match`), and a [`RenameAttr`] a pattern that makes a new name of one:
-//! `Cut_{0}` makes `Cut_shorter`. [`index_lifetimes`] gives the number of each lifetime's name, so that nothing above searches a list:
-//! of `shorter` it has `a` at 0 and `b` at 1.
+//! A [`Text`] is seen by contracts as the list of its bytes, so two texts are one value where their bytes are the
+//! same. An [`IdentBuf`] is a text that is an identifier of Rust (`shorter`, `r#match`), and a [`RenameAttr`] a
+//! pattern that makes a new name of one: `Cut_{0}` makes `Cut_shorter`. [`index_lifetimes`] gives the number of each
+//! lifetime's name, so that nothing above searches a list: of `shorter` it has `a` at 0 and `b` at 1.
 //!
 //! # Copies
 //!
-//! Each declaration has a `try_clone`, whose contract says that the copy is equal to it: every text, list and box in it is a
-//! type that contracts see by its value.
+//! Each declaration has a `try_clone`, whose contract says that the copy is equal to it: every text, list and box in
+//! it is a type that contracts see by its value.
 #![tactic(auto)]
 
 mod attrs;

@@ -29,6 +29,7 @@ abbrev pub target_at : List Module → ℕ → ℕ → List (List ℕ)
 target_at modules number alias =
     slice_index_or (slice_index_or (map (λ m. map (λ a. a.target) m.aliases) modules) number []) alias []
 
+-- where a name leads that stands for a part of the module
 abbrev pub to_part : Option EnvPart → Next
 to_part (Some (part.Item item)) = next.Item item
 to_part (Some (part.Alias alias)) = next.Alias alias
@@ -46,6 +47,7 @@ abbrev pub by_name : List Module → ℕ → List ℕ → Next
 by_name modules number name =
     to_submodule (module_at modules (path_at modules number ++ name ∷ [])) (meaning_of (named_at modules number) name)
 
+-- to the module of a number, if there is one
 abbrev pub to_module : Option ℕ → Next
 to_module (Some number) = next.Goes number Supers
 to_module None = next.Nothing

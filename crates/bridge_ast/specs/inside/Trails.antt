@@ -17,6 +17,7 @@ abbrev pub at_end : ItemPlace → List (List ℕ) → Option ItemPlace
 at_end place [] = Some place
 at_end place (segment ∷ segments) = None
 
+-- where segments lead from where a trail has come, with so many alias steps left
 abbrev pub stands_at : ℕ → List Module → Stand → List (List ℕ) → Option ItemPlace
 stands_at steps modules (stand.Module number head) rest = leads_within steps modules number head rest
 stands_at steps modules (stand.Item place) rest = at_end place rest

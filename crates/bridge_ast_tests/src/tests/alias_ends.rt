@@ -1,13 +1,13 @@
 //! Long chains of aliases.
 
-use super::declared::{Declared, attrs, items, modules, path_of, type_place};
+use super::declared::{attrs, items, path_of, type_place};
 use bridge_ast::{Alias, Env, Module, Text};
 use sqlite_items::Items;
 use std::alloc::Global;
 use std::test::Fail;
 
 /// The root with an enum `R` and aliases, each for the next with some segments after it; the last is for the end.
-pub fn chain(alloc: Global, count: usize, after: &[&str], end: &str) -> Result<Vec<Module>, Fail> {
+fn chain(alloc: Global, count: usize, after: &[&str], end: &str) -> Result<Vec<Module>, Fail> {
     let mut aliases = Items::new(alloc);
     for number in 0..count {
         let next = if count - number == 1 {
@@ -56,6 +56,7 @@ fn end_of_chain(
 fn chains_of_aliases(rt: HostRuntime) -> Result<(), Fail> {
     assert_eq!(rt; end_of_chain(rt.alloc(), 10000, &[], "R")?, Some((0, 0)));
     assert_eq!(rt; end_of_chain(rt.alloc(), 10000, &[], "a0")?, None);
+    assert_eq!(rt; end_of_chain(rt.alloc(), 10000, &[], "Q")?, None);
     assert_eq!(rt; end_of_chain(rt.alloc(), 2, &[], "a0")?, None);
     Ok(())
 }
@@ -65,28 +66,5 @@ fn chains_with_segments_after_each_alias(rt: HostRuntime) -> Result<(), Fail> {
     assert_eq!(rt; end_of_chain(rt.alloc(), 10000, &["m"], "crate")?, None);
     assert_eq!(rt; end_of_chain(rt.alloc(), 10000, &["m"], "a5000")?, None);
     assert_eq!(rt; end_of_chain(rt.alloc(), 1, &["R"], "crate")?, Some((0, 0)));
-    Ok(())
-}
-
-/// `d3` takes seven alias steps.
-const DOUBLED: [Declared; 1] = [(
-    &[],
-    &["R"],
-    &[
-        ("d1", &["crate"]),
-        ("d2", &["d1", "d1"]),
-        ("d3", &["d2", "d2"]),
-        ("more", &[]),
-    ],
-)];
-
-#[test]
-fn as_many_alias_steps_as_aliases_and_segments(rt: HostRuntime) -> Result<(), Fail> {
-    let env = Env::new(rt.alloc(), modules(rt.alloc(), &DOUBLED)?)?;
-    assert!(rt; !env.modules().is_empty());
-    let too_short = path_of(rt.alloc(), &["d3", "R"])?;
-    assert_eq!(rt; type_place(env.resolve(0, &too_short)), None);
-    let long_enough = path_of(rt.alloc(), &["self", "d3", "R"])?;
-    assert_eq!(rt; type_place(env.resolve(0, &long_enough)), Some((0, 0)));
     Ok(())
 }

@@ -1,4 +1,4 @@
-use bridge_ast::{IdentBuf, IdentFault, NoMemory, is_ident};
+use bridge_decl::{IdentBuf, IdentFault, NoMemory, is_ident};
 
 // Each with whether it is an identifier.
 const CASES: [(&str, bool); 34] = [

@@ -1,17 +1,94 @@
-//! Paths whose items are known from the definition, and are compared with what the environment and the plain search find.
+//! What paths name.
 
 ghost use Rattle.std.specs.Prelude.{◌<◌, length};
 
-use super::chains::chain;
 use super::declared::{Declared, modules, path_of, type_place};
-use bridge_ast::{Env, PathType, item_named};
-use std::alloc::Global;
+use bridge_ast::{Env, ItemPlace, PathType};
 use std::test::Fail;
 
-/// A path by the module in which it is read, and the number of the module and of the item that it names.
+/// A path by the module in which it is read, and the number of the module and of the item that it names, worked out by hand.
 type Row = (usize, &'static [&'static str], Option<(usize, usize)>);
 
 const DECLARED: [Declared; 3] = [
+    (
+        &[],
+        &["R", "T", "O"],
+        &[
+            ("a", &["m"]),
+            ("b", &["a"]),
+            ("c", &["b", "X"]),
+            ("x", &["y"]),
+            ("y", &["x"]),
+            ("k", &["m", "k"]),
+            ("trait", &["self", "T"]),
+            ("nothing", &[]),
+        ],
+    ),
+    (
+        &["m"],
+        &["X", "k"],
+        &[
+            ("back", &["super", "R"]),
+            ("top", &["super", "super", "R"]),
+            ("s", &["X"]),
+            ("up", &["super"]),
+        ],
+    ),
+    (&["m", "n"], &["Y"], &[("here", &["super"])]),
+];
+
+/// Paths to types.
+const PATHS: [Row; 31] = [
+    (0, &["R"], Some((0, 0))),
+    (0, &["O"], Some((0, 2))),
+    (0, &["T"], None),
+    (0, &["trait"], None),
+    (0, &["a", "X"], Some((1, 0))),
+    (0, &["b", "X"], Some((1, 0))),
+    (0, &["c"], Some((1, 0))),
+    (0, &["x"], None),
+    (0, &["x", "R"], None),
+    (0, &["k"], Some((1, 1))),
+    (0, &["nothing"], None),
+    (0, &["nothing", "crate", "R"], Some((0, 0))),
+    (0, &["m", "s"], Some((1, 0))),
+    (0, &["m"], None),
+    (0, &["R", "X"], None),
+    (0, &["super", "R"], None),
+    (0, &["crate", "super", "R"], None),
+    (0, &["Q"], None),
+    (0, &[], None),
+    (1, &["back"], Some((0, 0))),
+    (1, &["top"], None),
+    (1, &["super", "R"], Some((0, 0))),
+    (1, &["crate", "R"], Some((0, 0))),
+    (1, &["self", "X"], Some((1, 0))),
+    (1, &["n", "crate", "R"], None),
+    (1, &["n", "self", "Y"], None),
+    (1, &["up", "super", "R"], None),
+    (1, &["n", "Y"], Some((2, 0))),
+    (2, &["super", "super", "R"], Some((0, 0))),
+    (2, &["super", "up", "R"], Some((0, 0))),
+    (2, &["here", "super", "R"], Some((0, 0))),
+];
+
+#[test]
+fn types_that_paths_name(rt: HostRuntime) -> Result<(), Fail> {
+    let env = Env::new(rt.alloc(), modules(rt.alloc(), &DECLARED)?)?;
+    for (row, (in_module, segments, expected)) in PATHS.iter().enumerate() {
+        assert!(rt; *in_module < env.modules().len());
+        let path = path_of(rt.alloc(), segments)?;
+        assert_eq!(rt;
+            type_place(env.resolve(*in_module, &path)),
+            *expected,
+            "in row {row}"
+        );
+    }
+    Ok(())
+}
+
+/// Paths to types and traits, with cycles of aliases.
+const BRANCHED: [Declared; 3] = [
     (
         &[],
         &["R", "T", "O"],
@@ -42,7 +119,7 @@ const DECLARED: [Declared; 3] = [
     (&["m", "n"], &["Y"], &[]),
 ];
 
-const PATHS: [Row; 38] = [
+const BRANCHED_PATHS: [Row; 38] = [
     (0, &[], None),
     (0, &["R"], Some((0, 0))),
     (0, &["T"], Some((0, 1))),
@@ -122,28 +199,10 @@ fn place_of(env: &Env, in_module: usize, path: &PathType) -> Option<(usize, usiz
     }
 }
 
-/// The place of the item that a path names, found plainly.
-fn plain_place(
-    alloc: Global,
-    env: &Env,
-    in_module: usize,
-    path: &PathType,
-) -> Result<Option<(usize, usize)>, Fail> {
-    let segments = path.segments.as_slice();
-    let mut most = segments.len();
-    for module in env.modules() {
-        most = most
-            .checked_add(module.aliases.len())
-            .ok_or("too many aliases")?;
-    }
-    let found = item_named(alloc, env.modules(), in_module, segments, most)?;
-    Ok(found.map(|place| (place.module, place.item)))
-}
-
 #[test]
-fn paths_and_the_plain_search(rt: HostRuntime) -> Result<(), Fail> {
+fn types_and_traits_that_paths_name(rt: HostRuntime) -> Result<(), Fail> {
     for (declared, rows) in [
-        (DECLARED.as_slice(), PATHS.as_slice()),
+        (BRANCHED.as_slice(), BRANCHED_PATHS.as_slice()),
         (DOUBLED.as_slice(), DOUBLED_PATHS.as_slice()),
     ] {
         let env = Env::new(rt.alloc(), modules(rt.alloc(), declared)?)?;
@@ -155,28 +214,22 @@ fn paths_and_the_plain_search(rt: HostRuntime) -> Result<(), Fail> {
                 *expected,
                 "in row {row}"
             );
-            assert_eq!(rt;
-                plain_place(rt.alloc(), &env, *in_module, &path)?,
-                *expected,
-                "plainly, in row {row}"
-            );
         }
     }
     Ok(())
 }
 
 #[test]
-fn chains_and_the_plain_search(rt: HostRuntime) -> Result<(), Fail> {
-    for (end, expected) in [("R", Some((0, 0))), ("a0", None), ("Q", None)] {
-        let env = Env::new(rt.alloc(), chain(rt.alloc(), 1000, &[], end)?)?;
-        assert!(rt; !env.modules().is_empty());
-        let path = path_of(rt.alloc(), &["a0"])?;
-        assert_eq!(rt; place_of(&env, 0, &path), expected, "with the end {end}");
-        assert_eq!(rt;
-            plain_place(rt.alloc(), &env, 0, &path)?,
-            expected,
-            "plainly, with the end {end}"
-        );
+fn traits_that_paths_name(rt: HostRuntime) -> Result<(), Fail> {
+    let env = Env::new(rt.alloc(), modules(rt.alloc(), &DECLARED)?)?;
+    assert!(rt; 2 < env.modules().len());
+    let expected = ItemPlace { module: 0, item: 1 };
+    for segments in [&["trait"].as_slice(), &["T"].as_slice()] {
+        let path = path_of(rt.alloc(), segments)?;
+        let found = env.resolve_trait(0, &path).ok_or("nothing")?;
+        assert_eq!(rt; found.place, expected);
     }
+    let path = path_of(rt.alloc(), &["R"])?;
+    assert!(rt; env.resolve_trait(0, &path).is_none());
     Ok(())
 }

@@ -1,4 +1,4 @@
-use bridge_ast::{AttrInheritContext, NoMemory, RenameAttr, RenameFault};
+use bridge_decl::{AttrInheritContext, NoMemory, RenameAttr, RenameFault};
 use std::alloc::Global;
 
 // Patterns with what each makes of the name `f`, and whether it is handed on.

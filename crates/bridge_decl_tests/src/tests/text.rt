@@ -3,7 +3,7 @@ ghost use Rattle.std.specs.BTreeMap.{get};
 ghost use Rattle.std.specs.Cmp.Lexicographic.{slice_cmp};
 ghost use Rattle.std.specs.Ordering.{nat_cmp};
 
-use bridge_ast::{NoMemory, Text};
+use bridge_decl::{NoMemory, Text};
 use std::cmp::Ordering;
 use std::collections::BTreeMap;
 

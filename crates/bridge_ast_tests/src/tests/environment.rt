@@ -1,6 +1,0 @@
-mod chains;
-mod compared;
-mod declared;
-mod lifetimes;
-mod names;
-mod paths;
