@@ -1,24 +1,22 @@
 -- Types, conditions and modules may nest as deep as the text does: on a value that nests no deeper, more levels change nothing.
-use Rattle.std.proofs.Common.{◌≡◌, ℕ, zero, suc, ◌+◌, ◌*◌, ◌<◌, ◌≤◌, max, List, [], ◌∷◌, ◌++◌, map, Bool, true, false, IsTrue, Option, Some, None, option_and_then, Ordering, Less, Equal, Greater, Result, Ok, Err, nat_cmp, refl, sym, ap, subst, ◌∙◌, arith}
+use Rattle.std.proofs.Common.{◌≡◌, ℕ, zero, suc, ◌+◌, ◌*◌, ◌<◌, ◌≤◌, max, List, [], ◌∷◌, ◌++◌, false, IsTrue, Option, Some, None, option_and_then, Ordering, Less, Equal, Greater, Result, Ok, nat_cmp, refl, sym, ap, subst, ◌∙◌, arith}
 use mathlib.Core.Path.{fun_ext}
 use Rattle.std.specs.Cmp.Lexicographic.{slice_cmp}
 use Rattle.std.specs.Ordering.{match_ordering}
 use Rattle.serde_json.specs.Data.{Data, null, boolean, number, string, array, object, Items, no_items, item, Members, no_members, member, depth, items_depth, members_depth}
-use Rattle.serde_json.specs.Find.{as_str, get, get_member}
+use Rattle.serde_json.specs.Find.{as_str, get_member}
 use Rattle.bridge_decl.specs.declared.attrs.DiplomatBackendAttrCfg.{DiplomatBackendAttrCfg}
 use Rattle.bridge_decl.specs.declared.attrs.DiplomatBackendAttrCfg.TheVariants as cfg
-use Rattle.bridge_decl.specs.declared.types.StdlibOrDiplomat.{StdlibOrDiplomat}
 use Rattle.bridge_decl.specs.declared.types.StdlibOrDiplomat.TheVariants.{Stdlib, Diplomat}
 use Rattle.bridge_decl.specs.declared.types.TypeName.{TypeName}
 use Rattle.bridge_decl.specs.declared.types.TypeName.TheVariants as type
 use Rattle.bridge_read.specs.declared.fault.Fault.{Fault}
 use Rattle.bridge_read.specs.declared.keys.Key.{Key}
 use Rattle.bridge_read.specs.declared.keys.Key.TheVariants as key
-use Rattle.bridge_read.specs.declared.pointer.Step.TheVariants as step
 use Rattle.bridge_read.specs.Agree.{SaySame, CutsNothing}
-use Rattle.bridge_read.specs.Form.{Form, Parts, Each, each_faults, IsList, list_faults, list, object_faults, object_with, unknown_keys, made, ◌&◌, needs, NeededAt, needed_faults, may_have, OptionalAt, may_be, may_be_by, told, grouped, HeldAt, optional_faults, refined, mapped, word_or, TextOr, text_or, one_of, one_of_faults, never, add_live, live, sole, IsSole, sole_faults, inside_faults, text, flag, two}
+use Rattle.bridge_read.specs.Form.{Form, Parts, Each, each_faults, list, object_faults, object_with, unknown_keys, made, ◌&◌, needs, NeededAt, needed_faults, may_have, OptionalAt, may_be, may_be_by, told, grouped, HeldAt, optional_faults, refined, mapped, word_or, TextOr, text_or, one_of, one_of_faults, never, add_live, live, sole, IsSole, sole_faults, inside_faults, text, flag, two}
 use Rattle.bridge_read.specs.Keys.{key_text}
-use Rattle.bridge_read.specs.Reading.{◌>>=◌, at_key, each_of, entries_of, held_of, inside, list_of, needed_of, not_null, only, optional_of, or_wrong_at, under, within, has_only}
+use Rattle.bridge_read.specs.Reading.{◌>>=◌, at_key, each_of, entries_of, held_of, inside, needed_of, not_null, only, optional_of, or_wrong_at, under, has_only}
 use Rattle.bridge_read.specs.forms.Attrs.{condition_keys, condition_under, condition_within, condition_word, pair_condition}
 use Rattle.bridge_read.specs.forms.Lifetimes.{lifetime, path}
 use Rattle.bridge_read.specs.forms.Modules.{any_text, contents, joined, module_at, module_parts, module_within, nested_in, path_in}

@@ -1,5 +1,5 @@
 -- The pointer of each module leads to the object that spells it.
-use Rattle.std.proofs.Common.{◌≡◌, ℕ, zero, suc, ◌+◌, List, [], ◌∷◌, ◌++◌, length, map, Option, Some, None, option_and_then, refl, sym, ap, subst, ◌∙◌, inl, inr, arith}
+use Rattle.std.proofs.Common.{◌≡◌, ℕ, zero, suc, ◌+◌, List, [], ◌∷◌, ◌++◌, map, Option, Some, None, option_and_then, refl, sym, ap, subst, ◌∙◌, inl, inr, arith}
 use Rattle.std.specs.Prelude.{◌⊎◌, slice_get}
 use Rattle.serde_json.specs.Data.{Data, null, boolean, number, string, array, object, Items, no_items, item}
 use Rattle.serde_json.specs.Find.{get, get_item}
@@ -12,7 +12,7 @@ use Rattle.bridge_read.specs.declared.pointer.Step.{Step}
 use Rattle.bridge_read.specs.declared.pointer.Step.TheVariants.{Index}
 use Rattle.bridge_read.specs.Form.{Form, Each, IsList, NeededAt, HeldAt, list}
 use Rattle.bridge_read.specs.Keys.{key_text}
-use Rattle.bridge_read.specs.ModulePlaces.{leads_to, SpellsContents, SpellsModule, LeadsTo}
+use Rattle.bridge_read.specs.ModulePlaces.{leads_to, SpellsContents, LeadsTo}
 use Rattle.bridge_read.specs.Pointers.{in_entries, in_modules, in_root, items_of, module_pointers, modules_within}
 use Rattle.bridge_read.specs.Reading.{at_key, not_null, under}
 use Rattle.bridge_read.specs.forms.Attrs.{attrs, no_attrs}
@@ -147,10 +147,11 @@ module _ (levels : ℕ) (lead : (path : List (List ℕ)) (d : Data) (ms : List M
   module_leads path own d holds spells named None is ms h =
       subst (Beside (LeadsTo d) ([] ∷ [])) h ((d, refl, record { contents = spells; path = named }), tt)
   module_leads path own d holds spells named (Some e) is ms h =
-      subst (Beside (LeadsTo d) ([] ∷ in_modules (modules_within levels) (Some e))) h.2
-      ((d, refl, record { contents = spells; path = named }),
-      beside_map (LeadsTo e) (LeadsTo d) (λ steps. at_key key.Modules ∷ steps) (λ steps m k. leads_under key.Modules d e steps m is k)
-      (in_entries (modules_within levels) 0 (items_of e)) h.0 (nested_leads path e h.0 h.1))
+      subst (Beside (LeadsTo d) ([] ∷ in_modules (modules_within levels) (Some e))) h.2 (
+        (d, refl, record { contents = spells; path = named }),
+        beside_map (LeadsTo e) (LeadsTo d) (λ steps. at_key key.Modules ∷ steps) (λ steps m k. leads_under key.Modules d e steps m is k)
+            (in_entries (modules_within levels) 0 (items_of e)) h.0 (nested_leads path e h.0 h.1),
+      )
 
   contents_lead : (path own : List (List ℕ)) (d : Data) (named : (own ≡ []) ⊎ ((parent : List (List ℕ)) × (own ≡ path_in parent d))) (ms : List Module)
       → contents.Spell d (λ holds. HeldAt (nested_in levels path) [] (under key.Modules d) (λ inner. module_of own holds inner ≡ ms))

@@ -157,12 +157,7 @@ fn kind_of(kind: EnvFaultKind) -> InputKind
 }
 
 /// A fault between the declarations of a value.
-fn fault_between(
-    alloc: Global,
-    value: &Value,
-    kind: EnvFaultKind,
-    at: EnvPlace,
-) -> InputFault
+fn fault_between(alloc: Global, value: &Value, kind: EnvFaultKind, at: EnvPlace) -> InputFault
     ensures { Tells result (fault_of (view value.now) kind at) }
 {
     match place_pointer(alloc, value, at) {

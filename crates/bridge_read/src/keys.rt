@@ -1,7 +1,7 @@
 //! The keys of the JSON form.
 
 ghost use Rattle.std.specs.Prelude.{◌≡◌};
-ghost use Rattle.bridge_read.specs.Keys.{attribute_key_text, key_text, type_key_text};
+ghost use Rattle.bridge_read.specs.Keys.{key_text};
 
 /// A key of an object of the form.
 #[derive(Clone, Copy)]
@@ -88,7 +88,7 @@ pub enum Key {
     Of,
 }
 
-#[tactic(auto, unfolding(crate::specs::Keys::key_text, crate::specs::Keys::attribute_key_text, crate::specs::Keys::type_key_text))]
+#[tactic(auto, unfolding(crate::specs::Keys::key_text))]
 impl Key {
     /// The key as it is written.
     pub fn text(self) -> &'static str
@@ -127,15 +127,6 @@ impl Key {
             Key::Shorter => "shorter",
             Key::Lifetime => "lifetime",
             Key::Segments => "segments",
-            other => other.attribute_text(),
-        }
-    }
-
-    /// The same of the keys of attributes, documentation and settings, and of those of types.
-    fn attribute_text(self) -> &'static str
-        ensures { result.now ≡ attribute_key_text self }
-    {
-        match self {
             Key::Features => "features",
             Key::Marks => "marks",
             Key::Condition => "if",
@@ -164,15 +155,6 @@ impl Key {
             Key::Byte => "byte",
             Key::Int => "int",
             Key::Float => "float",
-            other => other.type_text(),
-        }
-    }
-
-    /// The same of the keys of types alone: the empty text of any other.
-    fn type_text(self) -> &'static str
-        ensures { result.now ≡ type_key_text self }
-    {
-        match self {
             Key::Str => "str",
             Key::Named => "named",
             Key::ImplTrait => "impl",
@@ -193,7 +175,6 @@ impl Key {
             Key::Encoding => "encoding",
             Key::Std => "std",
             Key::Of => "of",
-            _ => "",
         }
     }
 }

@@ -106,10 +106,7 @@ impl FromForm for BasicAttributeValidator {
 
     ghost form = { backend.read };
 
-    fn from_form(
-        alloc: Global,
-        value: &Value,
-    ) -> Result<BasicAttributeValidator, ReadFault> {
+    fn from_form(alloc: Global, value: &Value) -> Result<BasicAttributeValidator, ReadFault> {
         only(
             alloc,
             value,

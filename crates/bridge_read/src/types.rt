@@ -220,11 +220,7 @@ fn custom_slice(alloc: Global, value: &Value, levels: usize) -> Result<TypeName,
 
 /// The types of a list.
 #[cycle(types)]
-fn type_list(
-    alloc: Global,
-    value: &Value,
-    levels: usize,
-) -> Result<Items<TypeName>, ReadFault>
+fn type_list(alloc: Global, value: &Value, levels: usize) -> Result<Items<TypeName>, ReadFault>
     ensures { Gives result (list_of (type_within levels).read (view value.now)) }
 {
     let entries = entries(alloc, value)?;
@@ -255,12 +251,7 @@ fn callback(alloc: Global, value: &Value, levels: usize) -> Result<TypeName, Rea
 
 /// What stands under the key of a type, by the key.
 #[cycle(types)]
-fn type_under(
-    alloc: Global,
-    key: Key,
-    value: &Value,
-    levels: usize,
-) -> Result<TypeName, ReadFault>
+fn type_under(alloc: Global, key: Key, value: &Value, levels: usize) -> Result<TypeName, ReadFault>
     ensures { Gives result ((type_under (type_within levels) key).read (view value.now)) }
 {
     match key {
