@@ -4,11 +4,11 @@ use Rattle.bridge_decl.specs.declared.lifetimes.LifetimeNode.{LifetimeNode}
 use Rattle.bridge_decl.specs.declared.modules.Item.{Item}
 use Rattle.bridge_decl.specs.declared.modules.Module.{Module}
 use Rattle.bridge_ast.specs.EnvFaults.{method_nodes_of, nodes_of}
-use Rattle.bridge_ast.specs.declared.environment.fault.EnvFault.{EnvFault}
-use Rattle.bridge_ast.specs.declared.environment.fault.EnvFault.TheVariants.{Bad, NoMemory}
-use Rattle.bridge_ast.specs.declared.environment.fault.EnvPart.{EnvPart}
-use Rattle.bridge_ast.specs.declared.environment.fault.EnvPart.TheVariants as part
-use Rattle.bridge_ast.specs.declared.environment.fault.EnvPlace.{EnvPlace}
+use Rattle.bridge_ast.specs.declared.fault.EnvFault.{EnvFault}
+use Rattle.bridge_ast.specs.declared.fault.EnvFault.TheVariants.{Bad, NoMemory}
+use Rattle.bridge_ast.specs.declared.fault.EnvPart.{EnvPart}
+use Rattle.bridge_ast.specs.declared.fault.EnvPart.TheVariants as part
+use Rattle.bridge_ast.specs.declared.fault.EnvPlace.{EnvPlace}
 
 -- the item has a lifetime of that number: itself, or the method of a number
 abbrev pub HasLifetime : Item → Option ℕ → ℕ → Type 0
