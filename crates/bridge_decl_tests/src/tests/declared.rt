@@ -87,7 +87,7 @@ fn slice_types(alloc: Global, types: &mut Items<TypeName>) -> Result<(), Fail> {
 }
 
 /// One type of each kind.
-pub fn types(alloc: Global) -> Result<Items<TypeName>, Fail> {
+fn types(alloc: Global) -> Result<Items<TypeName>, Fail> {
     let mut types = Items::new(alloc);
     types.push(TypeName::Primitive(PrimitiveType::i8))?;
     types.push(TypeName::Ordering)?;
@@ -160,7 +160,7 @@ fn marks(alloc: Global) -> Result<Items<DiplomatBackendAttr>, Fail> {
     Ok(made)
 }
 
-pub fn attrs(alloc: Global) -> Result<Attrs, Fail> {
+fn attrs(alloc: Global) -> Result<Attrs, Fail> {
     Ok(Attrs {
         features: texts(alloc, &["extra"])?,
         marks: marks(alloc)?,
@@ -169,7 +169,7 @@ pub fn attrs(alloc: Global) -> Result<Attrs, Fail> {
     })
 }
 
-pub fn docs(alloc: Global) -> Result<Docs, Fail> {
+fn docs(alloc: Global) -> Result<Docs, Fail> {
     let mut blocks = Items::new(alloc);
     blocks.push(DocBlock {
         cfg: DiplomatBackendAttrCfg::Auto,
@@ -182,6 +182,24 @@ pub fn docs(alloc: Global) -> Result<Docs, Fail> {
         display: RustLinkDisplay::Compact,
     })?;
     Ok(Docs { blocks, links })
+}
+
+/// The attributes of a declaration that has none.
+fn no_attrs(alloc: Global) -> Attrs {
+    Attrs {
+        features: Items::new(alloc),
+        marks: Items::new(alloc),
+        abi_rename: RenameAttr::empty(),
+        deprecated: None,
+    }
+}
+
+/// The documentation of a declaration that has none.
+fn no_docs(alloc: Global) -> Docs {
+    Docs {
+        blocks: Items::new(alloc),
+        links: Items::new(alloc),
+    }
 }
 
 fn params(alloc: Global) -> Result<Items<Param>, Fail> {
@@ -198,7 +216,7 @@ fn methods(alloc: Global) -> Result<Items<Method>, Fail> {
     let self_param = SelfParam {
         reference: Some((named(alloc, "b")?, Mutability::Mutable)),
         path_type: path(alloc)?,
-        attrs: attrs(alloc)?,
+        attrs: no_attrs(alloc),
     };
     let mut made = Items::new(alloc);
     made.push(Method {
@@ -209,8 +227,8 @@ fn methods(alloc: Global) -> Result<Items<Method>, Fail> {
         lifetime_env: lifetimes(alloc)?,
         params: params(alloc)?,
         return_type: Some(TypeName::Ordering),
-        docs: docs(alloc)?,
-        attrs: attrs(alloc)?,
+        docs: no_docs(alloc),
+        attrs: no_attrs(alloc),
     })?;
     Ok(made)
 }
@@ -227,8 +245,8 @@ fn trait_methods(alloc: Global) -> Result<Items<TraitMethod>, Fail> {
         self_param: Some(self_param),
         params: params(alloc)?,
         output_type: Some(TypeName::Unit),
-        docs: docs(alloc)?,
-        attrs: attrs(alloc)?,
+        docs: no_docs(alloc),
+        attrs: no_attrs(alloc),
     })?;
     Ok(made)
 }
@@ -238,8 +256,8 @@ fn structure(alloc: Global) -> Result<Item, Fail> {
     fields.push(Field {
         name: text(alloc, "f")?,
         ty: TypeName::Function(types(alloc)?, byte(alloc)?, Mutability::Immutable),
-        docs: docs(alloc)?,
-        attrs: attrs(alloc)?,
+        docs: no_docs(alloc),
+        attrs: no_attrs(alloc),
     })?;
     Ok(Item::Struct(Struct {
         name: text(alloc, "S")?,
@@ -247,8 +265,8 @@ fn structure(alloc: Global) -> Result<Item, Fail> {
         fields,
         methods: methods(alloc)?,
         output_only: true,
-        docs: docs(alloc)?,
-        attrs: attrs(alloc)?,
+        docs: no_docs(alloc),
+        attrs: no_attrs(alloc),
     }))
 }
 
@@ -259,8 +277,8 @@ fn opaque(alloc: Global) -> Result<Item, Fail> {
         mutability: Mutability::Mutable,
         methods: methods(alloc)?,
         dtor_abi_name: text(alloc, "O_destroy")?,
-        docs: docs(alloc)?,
-        attrs: attrs(alloc)?,
+        docs: no_docs(alloc),
+        attrs: no_attrs(alloc),
     }))
 }
 
@@ -270,14 +288,14 @@ fn enumeration(alloc: Global) -> Result<Item, Fail> {
         name: text(alloc, "V")?,
         discriminant: -3,
         docs: docs(alloc)?,
-        attrs: attrs(alloc)?,
+        attrs: no_attrs(alloc),
     })?;
     Ok(Item::Enum(Enum {
         name: text(alloc, "E")?,
         variants,
         methods: methods(alloc)?,
-        docs: docs(alloc)?,
-        attrs: attrs(alloc)?,
+        docs: no_docs(alloc),
+        attrs: no_attrs(alloc),
     }))
 }
 
@@ -288,8 +306,8 @@ fn interface(alloc: Global) -> Result<Item, Fail> {
         methods: trait_methods(alloc)?,
         is_send: true,
         is_sync: false,
-        docs: docs(alloc)?,
-        attrs: attrs(alloc)?,
+        docs: no_docs(alloc),
+        attrs: no_attrs(alloc),
     }))
 }
 
@@ -300,8 +318,8 @@ fn function(alloc: Global) -> Result<Item, Fail> {
         lifetimes: lifetimes(alloc)?,
         params: params(alloc)?,
         output_type: Some(TypeName::Unit),
-        docs: docs(alloc)?,
-        attrs: attrs(alloc)?,
+        docs: no_docs(alloc),
+        attrs: no_attrs(alloc),
     }))
 }
 
@@ -320,7 +338,7 @@ pub fn module(alloc: Global) -> Result<Module, Fail> {
     })?;
     Ok(Module {
         path: texts(alloc, &["ffi"])?,
-        attrs: attrs(alloc)?,
+        attrs: no_attrs(alloc),
         items,
         aliases,
     })
