@@ -10,9 +10,8 @@ use Rattle.hir_elide.specs.declared.source.ElisionSource.TheVariants as source
 use Rattle.hir_elide.specs.Elision.{elided_by}
 use Rattle.hir_elide.specs.Generics.{all_or_fault, met, own_numbers, with_own}
 use Rattle.hir_elide.specs.Numbering.{Number, one_if_anonymous}
-use Rattle.hir_elide.specs.Occurrences.{Borrow, Counting, Own, Role, Signature, count_of, is_borrow, is_counting, is_own, numbers_with, used_as}
+use Rattle.hir_elide.specs.Occurrences.{Borrow, Counting, Own, Role, Signature, is_borrow, is_counting, is_own, numbers_with, used_as}
 use Rattle.hir_elide.specs.Phases.{Using, lowered, lowered_each, with_uses}
-use Rattle.hir_elide.specs.Signature.{environment_of}
 use Rattle.hir_elide.specs.inside.Sources.{IsSource, elided_from, with_counting}
 use Rattle.hir_elide.specs.inside.Standing.{IsOwn, Numbers}
 use Rattle.hir_elide.proofs.GenericLemmas.{all_ok}

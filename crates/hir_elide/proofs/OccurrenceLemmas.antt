@@ -4,7 +4,7 @@ use Rattle.std.proofs.lemmas.List.{append-nil}
 use Rattle.bridge_decl.specs.declared.lifetimes.Lifetime.{Lifetime}
 use Rattle.bridge_decl.specs.Lifetimes.{lifetime_names}
 use Rattle.hir_elide.specs.Numbering.{Number, count_after, lifetime_number, lifetime_numbers, one_if_anonymous}
-use Rattle.hir_elide.specs.Occurrences.{Occurrence, Own, Role, Signature, count_of, is_own, numbers_with, used_as}
+use Rattle.hir_elide.specs.Occurrences.{Occurrence, Role, Signature, count_of, numbers_with, used_as}
 use Rattle.hir_elide.specs.Phases.{Using, occurring, with_uses}
 
 -- ---- the count

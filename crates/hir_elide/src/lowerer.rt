@@ -1,6 +1,6 @@
 //! What lowers lifetimes, in whatever place they are used.
 
-ghost use Rattle.std.specs.Prelude.{◌≡◌, ◌∷◌, [], ◌≤◌, IfOk, OnOk, length};
+ghost use Rattle.std.specs.Prelude.{◌≡◌, ◌∷◌, [], ◌≤◌, OnOk, length};
 ghost use Rattle.hir_elide.specs.Generics.{IsUnlessNoMemory, all_or_fault, filled, lowered_generics, with_generics};
 ghost use Rattle.hir_elide.specs.Occurrences.{Signature};
 ghost use Rattle.hir_elide.specs.Phases.{Phase, lowered, lowered_each, with_uses};

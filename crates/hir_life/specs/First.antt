@@ -1,5 +1,5 @@
 -- The first of a list that isn't among some others. The example throughout is the list a, b, a, c.
-use Rattle.std.specs.Prelude.{◌≡◌, ℕ, List, ◌∷◌, ◌++◌, ◌<◌, length, take, slice_index}
+use Rattle.std.specs.Prelude.{◌≡◌, ℕ, List, ◌∷◌, ◌++◌}
 use Rattle.std.specs.List.{Contains}
 
 -- l stands in the list, and all that stand before it there were given. So where l wasn't given it is the first in the list

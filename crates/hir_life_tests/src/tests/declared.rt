@@ -7,7 +7,6 @@ use bridge_decl::{IdentFault, LifetimeEnv as Declared, LifetimeNode, NoMemory, T
 use hir_life::{Lifetime, LifetimeEnv};
 use sqlite_items::Items;
 use std::alloc::Global;
-use std::test::Fail;
 
 /// One lifetime is declared.
 fn one_name(alloc: Global, name: &str) -> Result<Declared, NoMemory>
@@ -22,26 +21,32 @@ fn one_name(alloc: Global, name: &str) -> Result<Declared, NoMemory>
     Ok(Declared { nodes })
 }
 
-#[test]
-fn declared_lifetimes(rt: HostRuntime) -> Result<(), Fail> {
-    let alloc = rt.alloc();
-    let declared = one_name(alloc, "a")?;
-    let mut env = match LifetimeEnv::of_declared(alloc, &declared) {
-        Ok(env) => env,
-        Err(_) => return Err(Fail::from("`a` is an identifier, and there is memory")),
-    };
-    assert_eq!(rt; env.num_lifetimes(), 1);
-    let named = env.get_bounds(Lifetime::new(0)).map(|bounds| bounds.ident.as_str());
-    assert_eq!(rt; named, Some("a"));
+/// The environment that declares this one lifetime, with an anonymous one.
+fn with_anonymous(alloc: Global, name: &str) -> Result<LifetimeEnv, IdentFault> {
+    let declared = one_name(alloc, name)?;
+    let mut env = LifetimeEnv::of_declared(alloc, &declared)?;
     if env.num_lifetimes() < usize::MAX {
-        let anonymous = env.add_anonymous();
-        assert_eq!(rt; anonymous.index(), 1);
+        env.add_anonymous();
     }
-    assert_eq!(rt; env.num_lifetimes(), 2);
-    let keyword = one_name(alloc, "match")?;
-    match LifetimeEnv::of_declared(alloc, &keyword) {
+    Ok(env)
+}
+
+#[test]
+fn declared_lifetimes(rt: HostRuntime) {
+    match with_anonymous(rt.alloc(), "a") {
+        Ok(env) => {
+            assert_eq!(rt; env.num_lifetimes(), 2);
+            assert!(rt; env.get_bounds(Lifetime::new(0)).is_some());
+            assert!(rt; env.get_bounds(Lifetime::new(1)).is_none());
+        }
+        Err(_) => assert!(rt; false),
+    }
+}
+
+#[test]
+fn names_that_are_no_identifiers(rt: HostRuntime) {
+    match with_anonymous(rt.alloc(), "match") {
         Ok(_) => assert!(rt; false),
         Err(fault) => assert_eq!(rt; fault, IdentFault::Bad),
     }
-    Ok(())
 }
