@@ -1,6 +1,9 @@
 //! Modules and paths that tests declare.
 
-use bridge_ast::{Alias, Attrs, CustomType, Docs, Enum, Env, EnvFault, EnvFaultKind, EnvPlace, Item, LifetimeEnv, Module, Mutability, OpaqueType, PathType, RenameAttr, Text, Trait};
+use bridge_ast::{
+    Alias, Attrs, CustomType, Docs, Enum, Env, EnvFault, EnvFaultKind, EnvPlace, Item, LifetimeEnv,
+    Module, Mutability, OpaqueType, PathType, RenameAttr, Text, Trait,
+};
 use sqlite_items::Items;
 use std::alloc::Global;
 use std::test::Fail;

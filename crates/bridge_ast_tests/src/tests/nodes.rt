@@ -1,7 +1,9 @@
 //! The first faults of lifetimes.
 
 use super::declared::{Expected, attrs, docs, fault_of};
-use bridge_ast::{Env, EnvFaultKind, EnvPart, EnvPlace, Item, LifetimeEnv, LifetimeNode, Module, Struct, Text};
+use bridge_ast::{
+    Env, EnvFaultKind, EnvPart, EnvPlace, Item, LifetimeEnv, LifetimeNode, Module, Struct, Text,
+};
 use sqlite_items::Items;
 use std::alloc::Global;
 use std::test::Fail;
