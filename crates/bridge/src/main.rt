@@ -1,4 +1,7 @@
 //! The program: `bridge_tool::run` over the words, standard input and standard output.
+//!
+//! Handed the declaration of `fn pick<'a, 'b: 'a>(&'a self, y: &'b O) -> &'a O` it prints its page and ends with 0; handed the word
+//! `chek` it reads nothing, prints `bridge_tool: status 6` to standard error and ends with 6.
 #![tactic(auto)]
 
 mod words;

@@ -1,7 +1,8 @@
 -- Lists printed piece by piece.
-use Rattle.std.proofs.Common.{◌≡◌, ◌+◌, ◌<◌, ◌++◌, ◌∷◌, ◌∙◌, [], ◌≤◌, ℕ, zero, suc, Option, List, length, take, get_or, sym, ap, append_assoc, arith}
+use Rattle.std.proofs.Common.{◌≡◌, ◌+◌, ◌<◌, ◌++◌, ◌∷◌, ◌∙◌, [], ◌≤◌, ℕ, zero, suc, List, length, take, get_or, sym, ap, append_assoc, arith}
 use Rattle.std.specs.List.{join_by, flat_map}
 use Rattle.std.proofs.lemmas.List.{take_more, flat_map_more, append-nil, take_all}
+use Rattle.bridge_outside.specs.Outside.{SinkState}
 use Rattle.bridge_outside.specs.Printing.{Printing, Prints, separator_at}
 use Rattle.bridge_outside.proofs.PrintingLaws.{◌⨟◌, prints_same}
 
@@ -20,12 +21,12 @@ join_by-more f separator (y ∷ ys) (suc i) x within here =
     ap (join_by f separator) (take_more (y ∷ ys) (suc i) x within) ∙ ap (λ z. join_by f separator (y ∷ take i ys ++ z ∷ [])) (sym here) ∙ join_by-snoc f separator y (take i ys) x
 
 -- one more piece is printed
-pub prints_more : {K X : Type 0} {taken : K → Option (List ℕ)} {faults : K → ℕ} {a b c : K} {out_a out_b out_c : Printing} (f : X → List ℕ) (separator : List ℕ) (xs : List X) (i : ℕ) (x : X)
-    → Prints taken faults a out_a b out_b (join_by f separator (take i xs)) → Prints taken faults b out_b c out_c (separator_at separator i ++ f x)
-    → i < length xs → x ≡ get_or xs i x → Prints taken faults a out_a c out_c (join_by f separator (take (i + 1) xs))
+pub prints_more : {X : Type 0} {a b c : SinkState} {out_a out_b out_c : Printing} (f : X → List ℕ) (separator : List ℕ) (xs : List X) (i : ℕ) (x : X)
+    → Prints a out_a b out_b (join_by f separator (take i xs)) → Prints b out_b c out_c (separator_at separator i ++ f x)
+    → i < length xs → x ≡ get_or xs i x → Prints a out_a c out_c (join_by f separator (take (i + 1) xs))
 prints_more f separator xs i x before now within here = prints_same (sym (join_by-more f separator xs i x within here)) (before ⨟ now)
 
 -- all pieces are printed
-pub prints_all : {K X : Type 0} {taken : K → Option (List ℕ)} {faults : K → ℕ} {a b : K} {out_a out_b : Printing} (f : X → List ℕ) (separator : List ℕ) (xs : List X) (i : ℕ)
-    → Prints taken faults a out_a b out_b (join_by f separator (take i xs)) → length xs ≤ i → Prints taken faults a out_a b out_b (join_by f separator xs)
+pub prints_all : {X : Type 0} {a b : SinkState} {out_a out_b : Printing} (f : X → List ℕ) (separator : List ℕ) (xs : List X) (i : ℕ)
+    → Prints a out_a b out_b (join_by f separator (take i xs)) → length xs ≤ i → Prints a out_a b out_b (join_by f separator xs)
 prints_all f separator xs i printed all = prints_same (ap (join_by f separator) (take_all i xs all)) printed

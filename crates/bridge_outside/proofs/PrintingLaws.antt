@@ -2,7 +2,7 @@
 use Rattle.std.proofs.Common.{◌≡◌, ◌+◌, ◌≤◌, ◌++◌, ◌∙◌, ◌⊎◌, inl, inr, [], ℕ, List, true, false, Option, None, Some, Result, Ok, Err, IsSome, IsNone, is_some, length, take, drop, refl, sym, ap, subst, append_assoc, arith, length-drop}
 use Rattle.std.proofs.lemmas.List.{append-nil}
 use Rattle.std.proofs.Math.Seq.{take-add}
-use Rattle.bridge_outside.specs.Outside.{Rose, Writes, taken_with}
+use Rattle.bridge_outside.specs.Outside.{Rose, SinkState, Writes, taken_with}
 use Rattle.bridge_outside.specs.Printing.{Printing, Prints, Delivers, IsEndOf, begins}
 use Rattle.bridge_outside.specs.declared.sink.SinkFault.{SinkFault}
 use Rattle.bridge_outside.specs.declared.sink.SinkFault.TheVariants.{Failed, NoMemory}
@@ -23,29 +23,29 @@ not_both : {A : Type 0} (fault : Option SinkFault) → IsNone fault → IsSome f
 not_both fault none some = let e : false ≡ true = sym none ∙ some in cc
 
 -- without a fault in between
-chain_running : {K : Type 0} {taken : K → Option (List ℕ)} {faults : K → ℕ} {a b c : K} {out_a out_b out_c : Printing} {x y : List ℕ}
-    → IsNone out_b.fault → Prints taken faults a out_a b out_b x → Prints taken faults b out_b c out_c y → Prints taken faults a out_a c out_c (x ++ y)
-chain_running {taken = taken} {faults = faults} {a = a} {b = b} {c = c} {out_a = out_a} {out_b = out_b} {out_c = out_c} {x = x} {y = y} running p q = record {
+chain_running : {a b c : SinkState} {out_a out_b out_c : Printing} {x y : List ℕ}
+    → IsNone out_b.fault → Prints a out_a b out_b x → Prints b out_b c out_c y → Prints a out_a c out_c (x ++ y)
+chain_running {a = a} {b = b} {c = c} {out_a = out_a} {out_b = out_b} {out_c = out_c} {x = x} {y = y} running p q = record {
   sent = p.sent ++ q.sent;
   rest = q.rest;
   parts = append_assoc p.sent q.sent q.rest ∙ ap (λ zs. p.sent ++ zs) (q.parts ∙ ap (λ zs. zs ++ y) (sym (p.holds running)))
       ∙ sym (append_assoc p.sent p.rest y) ∙ ap (λ zs. zs ++ y) p.parts ∙ append_assoc out_a.held x y;
-  took = q.took ∙ ap (λ zs. taken_with zs q.sent) p.took ∙ taken_with-append (taken a) p.sent q.sent;
+  took = q.took ∙ ap (λ zs. taken_with zs q.sent) p.took ∙ taken_with-append a.taken p.sent q.sent;
   holds = q.holds;
   stuck = λ stopped. not_both out_b.fault running (ap (λ (out : Printing). is_some out.fault) (p.stuck stopped).0 ∙ stopped);
   steady = λ none. q.steady none ∙ p.steady running;
-  failed = λ failed begun. subst (λ n. Rose n (faults c)) (p.steady running) (q.failed failed running);
+  failed = λ failed begun. subst (λ n. Rose n c.faults) (p.steady running) (q.failed failed running);
   no_memory = λ memory. q.no_memory memory ∙ p.steady running;
   never_falls = let first = p.never_falls in let second = q.never_falls in omega arith;
 }
 
 -- after a fault
-chain_stopped : {K : Type 0} {taken : K → Option (List ℕ)} {faults : K → ℕ} {a b c : K} {out_a out_b out_c : Printing} {x y : List ℕ}
-    → IsSome out_b.fault → Prints taken faults a out_a b out_b x → Prints taken faults b out_b c out_c y → Prints taken faults a out_a c out_c (x ++ y)
-chain_stopped {taken = taken} {faults = faults} {a = a} {b = b} {c = c} {out_a = out_a} {out_b = out_b} {out_c = out_c} {x = x} {y = y} stopped p q =
+chain_stopped : {a b c : SinkState} {out_a out_b out_c : Printing} {x y : List ℕ}
+    → IsSome out_b.fault → Prints a out_a b out_b x → Prints b out_b c out_c y → Prints a out_a c out_c (x ++ y)
+chain_stopped {a = a} {b = b} {c = c} {out_a = out_a} {out_b = out_b} {out_c = out_c} {x = x} {y = y} stopped p q =
     let same : out_c ≡ out_b = (q.stuck stopped).0 in
     let same_fault : out_b.fault ≡ out_c.fault = sym (ap (λ (out : Printing). out.fault) same) in
-    let same_count : faults c ≡ faults b = (q.stuck stopped).2 in
+    let same_count : c.faults ≡ b.faults = (q.stuck stopped).2 in
     let still : IsSome out_c.fault = ap is_some (sym same_fault) ∙ stopped in
     record {
       sent = p.sent;
@@ -55,24 +55,24 @@ chain_stopped {taken = taken} {faults = faults} {a = a} {b = b} {c = c} {out_a =
       holds = λ none. not_both out_c.fault none still;
       stuck = λ begun. (same ∙ (p.stuck begun).0, (q.stuck stopped).1 ∙ (p.stuck begun).1, same_count ∙ (p.stuck begun).2);
       steady = λ none. not_both out_c.fault none still;
-      failed = λ failed begun. subst (λ n. Rose (faults a) n) (sym same_count) (p.failed (same_fault ∙ failed) begun);
+      failed = λ failed begun. subst (λ n. Rose a.faults n) (sym same_count) (p.failed (same_fault ∙ failed) begun);
       no_memory = λ memory. same_count ∙ p.no_memory (same_fault ∙ memory);
       never_falls = let first = p.never_falls in omega arith;
     }
 
 -- one text after another
-pub ◌⨟◌ : {K : Type 0} {taken : K → Option (List ℕ)} {faults : K → ℕ} {a b c : K} {out_a out_b out_c : Printing} {x y : List ℕ}
-    → Prints taken faults a out_a b out_b x → Prints taken faults b out_b c out_c y → Prints taken faults a out_a c out_c (x ++ y)
+pub ◌⨟◌ : {a b c : SinkState} {out_a out_b out_c : Printing} {x y : List ℕ}
+    → Prints a out_a b out_b x → Prints b out_b c out_c y → Prints a out_a c out_c (x ++ y)
 p ⨟ q = elim (cases_fault _) [ inl running ↦ chain_running running p q | inr stopped ↦ chain_stopped stopped p q ]
 
 infixl 30 ◌⨟◌
 -- nothing
-pub prints_nothing : {K : Type 0} {taken : K → Option (List ℕ)} {faults : K → ℕ} {sink : K} {out : Printing} → Prints taken faults sink out sink out []
-prints_nothing {taken = taken} {sink = sink} {out = out} = record {
+pub prints_nothing : {sink : SinkState} {out : Printing} → Prints sink out sink out []
+prints_nothing {sink = sink} {out = out} = record {
   sent = [];
   rest = out.held;
   parts = sym (append-nil out.held);
-  took = sym (taken_with-nothing (taken sink));
+  took = sym (taken_with-nothing sink.taken);
   holds = λ none. refl;
   stuck = λ stopped. (refl, refl, refl);
   steady = λ none. refl;
@@ -82,13 +82,13 @@ prints_nothing {taken = taken} {sink = sink} {out = out} = record {
 }
 
 -- anything, after a fault
-pub prints_stopped : {K : Type 0} {taken : K → Option (List ℕ)} {faults : K → ℕ} {sink : K} {out : Printing} {text : List ℕ}
-    → IsSome out.fault → Prints taken faults sink out sink out text
-prints_stopped {taken = taken} {sink = sink} {out = out} {text = text} stopped = record {
+pub prints_stopped : {sink : SinkState} {out : Printing} {text : List ℕ}
+    → IsSome out.fault → Prints sink out sink out text
+prints_stopped {sink = sink} {out = out} {text = text} stopped = record {
   sent = [];
   rest = out.held ++ text;
   parts = refl;
-  took = sym (taken_with-nothing (taken sink));
+  took = sym (taken_with-nothing sink.taken);
   holds = λ none. not_both out.fault none stopped;
   stuck = λ stopped. (refl, refl, refl);
   steady = λ none. refl;
@@ -98,13 +98,13 @@ prints_stopped {taken = taken} {sink = sink} {out = out} {text = text} stopped =
 }
 
 -- a text that is held back
-pub prints_held : {K : Type 0} {taken : K → Option (List ℕ)} {faults : K → ℕ} {sink : K} {out out' : Printing} {text : List ℕ}
-    → IsNone out.fault → out'.held ≡ out.held ++ text → out'.fault ≡ out.fault → Prints taken faults sink out sink out' text
-prints_held {taken = taken} {sink = sink} {out = out} {out' = out'} {text = text} running held same = record {
+pub prints_held : {sink : SinkState} {out out' : Printing} {text : List ℕ}
+    → IsNone out.fault → out'.held ≡ out.held ++ text → out'.fault ≡ out.fault → Prints sink out sink out' text
+prints_held {sink = sink} {out = out} {out' = out'} {text = text} running held same = record {
   sent = [];
   rest = out.held ++ text;
   parts = refl;
-  took = sym (taken_with-nothing (taken sink));
+  took = sym (taken_with-nothing sink.taken);
   holds = λ none. sym held;
   stuck = λ stopped. not_both out.fault running stopped;
   steady = λ none. refl;
@@ -114,13 +114,13 @@ prints_held {taken = taken} {sink = sink} {out = out} {out' = out'} {text = text
 }
 
 -- a text under another name
-pub prints_same : {K : Type 0} {taken : K → Option (List ℕ)} {faults : K → ℕ} {sink sink' : K} {out out' : Printing} {x y : List ℕ}
-    → x ≡ y → Prints taken faults sink out sink' out' x → Prints taken faults sink out sink' out' y
-prints_same {taken = taken} {faults = faults} {sink = sink} {sink' = sink'} {out = out} {out' = out'} e p = subst (λ text. Prints taken faults sink out sink' out' text) e p
+pub prints_same : {sink sink' : SinkState} {out out' : Printing} {x y : List ℕ}
+    → x ≡ y → Prints sink out sink' out' x → Prints sink out sink' out' y
+prints_same {sink = sink} {sink' = sink'} {out = out} {out' = out'} e p = subst (λ text. Prints sink out sink' out' text) e p
 
 -- what was printed from the beginning to the end is written, whole or up to a fault
-delivers_printed : {K T : Type 0} {taken : K → Option (List ℕ)} {faults : K → ℕ} {sink sink' : K} {out out' : Printing} {text : List ℕ} (answer : Result T SinkFault)
-    → out ≡ begins → Prints taken faults sink out sink' out' text → IsEndOf out' answer → Delivers taken faults sink sink' text answer
+delivers_printed : {T : Type 0} {sink sink' : SinkState} {out out' : Printing} {text : List ℕ} (answer : Result T SinkFault)
+    → out ≡ begins → Prints sink out sink' out' text → IsEndOf out' answer → Delivers sink sink' text answer
 delivers_printed {out = out} {out' = out'} {text = text} (Ok u) begun p end =
     let none : IsNone out'.fault = ap (λ (out : Printing). is_some out.fault) end in
     let rest_nothing : p.rest ≡ [] = p.holds none ∙ ap (λ (out : Printing). out.held) end in
@@ -149,22 +149,22 @@ delivers_printed {T = T} {out = out} {out' = out'} {text = text} (Err fault) beg
 }
 
 -- what was printed from the beginning, and then finished, is written, whole or up to a fault
-pub delivers : {K T : Type 0} {taken : K → Option (List ℕ)} {faults : K → ℕ} {a b c : K} {out_a out_b out_c : Printing} {text : List ℕ} (answer : Result T SinkFault)
-    → out_a ≡ begins → Prints taken faults a out_a b out_b text → Prints taken faults b out_b c out_c [] → IsEndOf out_c answer → Delivers taken faults a c text answer
+pub delivers : {T : Type 0} {a b c : SinkState} {out_a out_b out_c : Printing} {text : List ℕ} (answer : Result T SinkFault)
+    → out_a ≡ begins → Prints a out_a b out_b text → Prints b out_b c out_c [] → IsEndOf out_c answer → Delivers a c text answer
 delivers {text = text} answer begun printed finished end = delivers_printed answer begun (prints_same (append-nil text) (printed ⨟ finished)) end
 
 -- so much of a piece went to the sink
-pub record SentSoFar {K : Type 0} (taken : K → Option (List ℕ)) (faults : K → ℕ) (start now : K) (piece : List ℕ) (done : ℕ) : Type 0 where
+pub record SentSoFar (start now : SinkState) (piece : List ℕ) (done : ℕ) : Type 0 where
   pub within : done ≤ length piece
-  pub took : taken now ≡ taken_with (taken start) (take done piece)
-  pub steady : faults now ≡ faults start
+  pub took : now.taken ≡ taken_with start.taken (take done piece)
+  pub steady : now.faults ≡ start.faults
 
-pub sent_more : {K : Type 0} {taken : K → Option (List ℕ)} {faults : K → ℕ} {start now now' : K} {piece rest : List ℕ} {done n : ℕ}
-    → SentSoFar taken faults start now piece done → rest ≡ drop done piece → Writes (taken now) (taken now') (faults now) (faults now') rest (Ok n)
-    → SentSoFar taken faults start now' piece (done + n)
-sent_more {taken = taken} {start = start} {piece = piece} {rest = rest} {done = done} {n = n} s is_rest w = record {
+pub sent_more : {start now now' : SinkState} {piece rest : List ℕ} {done n : ℕ}
+    → SentSoFar start now piece done → rest ≡ drop done piece → Writes now now' rest (Ok n)
+    → SentSoFar start now' piece (done + n)
+sent_more {start = start} {piece = piece} {rest = rest} {done = done} {n = n} s is_rest w = record {
   within = let within : done ≤ length piece = s.within in let bound : n ≤ length rest = w.bound in omega (arith, length-drop done piece, ap length is_rest);
-  took = w.took ∙ ap (λ zs. taken_with zs (take n rest)) s.took ∙ taken_with-append (taken start) (take done piece) (take n rest)
-      ∙ ap (λ zs. taken_with (taken start) (take done piece ++ take n zs)) is_rest ∙ ap (taken_with (taken start)) (sym (take-add done n piece));
+  took = w.took ∙ ap (λ zs. taken_with zs (take n rest)) s.took ∙ taken_with-append start.taken (take done piece) (take n rest)
+      ∙ ap (λ zs. taken_with start.taken (take done piece ++ take n zs)) is_rest ∙ ap (taken_with start.taken) (sym (take-add done n piece));
   steady = w.steady ∙ s.steady;
 }

@@ -2,7 +2,7 @@
 use Rattle.std.proofs.Common.{◌≡◌, ◌+◌, ◌≤◌, ◌<◌, ◌↔◌, ◌++◌, ◌∙◌, [], ℕ, List, Option, None, Some, Ok, IfSome, length, take, drop, sym, ap, subst, arith, length-drop}
 use Rattle.std.proofs.lemmas.List.{drop-drop, length-take-le, take_at, take_all}
 use Rattle.std.proofs.Math.Seq.{take-add}
-use Rattle.bridge_outside.specs.Outside.{Reads, left_after}
+use Rattle.bridge_outside.specs.Outside.{Reads, SourceState, left_after}
 
 -- the first len bytes of the buffer are those that the source had left at the start, and it has the others left
 pub record ReadSoFar (start now : Option (List ℕ)) (len : ℕ) (bytes : List ℕ) : Type 0 where
@@ -22,9 +22,9 @@ front_more all bytes bytes' len n front enough kept given =
     let same : take n (drop len bytes') ≡ take n (drop len all) = ap (take n) given ∙ take_at (take n (drop len all)) (drop n (drop len bytes)) n (length-take-le n (drop len all) enough) in
     take-add len n bytes' ∙ ap (λ xs. xs ++ take n (drop len bytes')) (kept ∙ front) ∙ ap (λ xs. take len all ++ xs) same ∙ sym (take-add len n all)
 
-pub read_more : {E : Type 0} (start : Option (List ℕ)) {now now' : Option (List ℕ)} {faults faults' len n : ℕ} (bytes bytes' : List ℕ)
-    → ReadSoFar start now len bytes → Reads {E = E} now now' faults faults' (drop len bytes) (drop len bytes') (Ok n)
-    → take len bytes' ≡ take len bytes → ReadSoFar start now' (len + n) bytes'
+pub read_more : {E : Type 0} (start : Option (List ℕ)) {now now' : SourceState} {len n : ℕ} (bytes bytes' : List ℕ)
+    → ReadSoFar start now.left len bytes → Reads {E = E} now now' (drop len bytes) (drop len bytes') (Ok n)
+    → take len bytes' ≡ take len bytes → ReadSoFar start now'.left (len + n) bytes'
 read_more None bytes bytes' so_far read kept = record {
   gone = read.gone ∙ ap (left_after _) so_far.gone;
   enough = tt;
@@ -41,9 +41,9 @@ read_more (Some all) {now} {now'} {len = len} {n = n} bytes bytes' so_far read k
     }
 
 -- a read that gives nothing, where there was room, shows that all was read
-pub all_read : {E : Type 0} (start : Option (List ℕ)) {now now' : Option (List ℕ)} {faults faults' len n : ℕ} (bytes bytes' : List ℕ)
-    → ReadSoFar start now len bytes → Reads {E = E} now now' faults faults' (drop len bytes) (drop len bytes') (Ok n) → n ≡ 0
-    → take len bytes' ≡ take len bytes → len < length bytes → IfSome start (λ all. (take len bytes' ≡ all) × (now' ≡ Some []))
+pub all_read : {E : Type 0} (start : Option (List ℕ)) {now now' : SourceState} {len n : ℕ} (bytes bytes' : List ℕ)
+    → ReadSoFar start now.left len bytes → Reads {E = E} now now' (drop len bytes) (drop len bytes') (Ok n) → n ≡ 0
+    → take len bytes' ≡ take len bytes → len < length bytes → IfSome start (λ all. (take len bytes' ≡ all) × (now'.left ≡ Some []))
 all_read None bytes bytes' so_far read zero kept room = tt
 all_read (Some all) {now} {len = len} {n = n} bytes bytes' so_far read zero kept room =
     let some : 0 < length (drop len bytes) = omega (arith, length-drop len bytes) in
@@ -52,8 +52,8 @@ all_read (Some all) {now} {len = len} {n = n} bytes bytes' so_far read zero kept
     (kept ∙ so_far.front ∙ take_all len all whole, read.gone ∙ ap (left_after n) so_far.gone ∙ ap (λ k. Some (drop k (drop len all))) zero ∙ ap Some nothing)
 
 -- so the buffer, cut, is what the source had
-pub whole_read : {E : Type 0} (start : Option (List ℕ)) {now now' : Option (List ℕ)} {faults faults' len n : ℕ} (bytes bytes' cut : List ℕ)
-    → ReadSoFar start now len bytes → Reads {E = E} now now' faults faults' (drop len bytes) (drop len bytes') (Ok n) → n ≡ 0
+pub whole_read : {E : Type 0} (start : Option (List ℕ)) {now now' : SourceState} {len n : ℕ} (bytes bytes' cut : List ℕ)
+    → ReadSoFar start now.left len bytes → Reads {E = E} now now' (drop len bytes) (drop len bytes') (Ok n) → n ≡ 0
     → take len bytes' ≡ take len bytes → len < length bytes → cut ≡ take len bytes' → IfSome start (λ all. cut ≡ all)
 whole_read None bytes bytes' cut so_far read zero kept room e = tt
 whole_read (Some all) bytes bytes' cut so_far read zero kept room e = e ∙ (all_read (Some all) bytes bytes' so_far read zero kept room).0

@@ -1,14 +1,14 @@
 -- What a whole reading of a source answers.
-use Rattle.std.specs.Prelude.{◌≡◌, ◌≤◌, ◌<◌, ◌^◌, ⊤, ℕ, List, length, Option, IfSome, Result, Ok, Err}
-use Rattle.bridge_outside.specs.Outside.{Rose}
+use Rattle.std.specs.Prelude.{◌≡◌, ◌≤◌, ◌<◌, ◌^◌, ⊤, ℕ, List, length, IfSome, Result, Ok, Err}
+use Rattle.bridge_outside.specs.Outside.{Rose, SourceState}
 use Rattle.bridge_outside.specs.declared.bytes.ReadFault.{ReadFault}
 use Rattle.bridge_outside.specs.declared.bytes.ReadFault.TheVariants.{Failed, TooLong, NoMemory}
 
--- what a fault says of the bytes that the source had left, and of its count of faults before and after
-abbrev pub HasReadCause : ReadFault → Option (List ℕ) → ℕ → ℕ → Type 0
-HasReadCause Failed left faults faults' = Rose faults faults'
-HasReadCause TooLong left faults faults' = (faults' ≡ faults) × IfSome left (λ bytes. 2 ^ 26 < length bytes)
-HasReadCause NoMemory left faults faults' = faults' ≡ faults
+-- what a fault says of the source before and after
+abbrev pub HasReadCause : ReadFault → SourceState → SourceState → Type 0
+HasReadCause Failed old new = Rose old.faults new.faults
+HasReadCause TooLong old new = (new.faults ≡ old.faults) × IfSome old.left (λ bytes. 2 ^ 26 < length bytes)
+HasReadCause NoMemory old new = new.faults ≡ old.faults
 
 -- the answer where the source told what it had left, all of this, and no read failed
 abbrev pub IsReadAnswer : {T : Type 0} → List ℕ → Result T ReadFault → Type 0

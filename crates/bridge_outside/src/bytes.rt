@@ -37,11 +37,10 @@ impl From<AllocError> for ReadFault {
 // One read into the buffer behind its first `len` bytes.
 fn read_behind<S: Source>(source: &mut S, bytes: &mut Vec<u8>, len: usize) -> Result<usize, Failed>
     requires { len ≤ vec_len bytes.old }
-    ensures reads { Reads (S.left source.old) (S.left source.new)
-        (S.faults source.old) (S.faults source.new) (drop len bytes.old.items) (drop len bytes.new.items) result }
+    ensures reads { Reads (S.state source.old) (S.state source.new)
+        (drop len bytes.old.items) (drop len bytes.new.items) result }
     ensures front { take len bytes.new.items ≡ take len bytes.old.items }
     ensures len { vec_len bytes.new ≡ vec_len bytes.old }
-    ensures one_call { S.calls source.new ≤ S.calls source.old + 1 }
 {
     source.read(&mut bytes[len..])
 }
@@ -64,18 +63,20 @@ fn make_room(bytes: &mut Vec<u8>, len: usize) -> Result<(), AllocError>
 /// All the bytes that the source has left. `Failed` where a read failed, `TooLong` where the source
 /// gives more than 2^26 bytes, `NoMemory` for want of memory. It makes at most 2^26 + 1 reads.
 pub fn read_all<S: Source>(alloc: Global, source: &mut S) -> Result<Vec<u8>, ReadFault>
-    ensures whole { IfOk result (λ bytes. IfSome (S.left source.old) (λ all. bytes.items ≡ all)) }
-    ensures at_end { OnOk result (IfSome (S.left source.old) (λ _. S.left source.new ≡ Some [])) }
+    ensures whole { IfOk result (λ bytes.
+        IfSome (S.state source.old).left (λ all. bytes.items ≡ all)) }
+    ensures at_end { OnOk result (IfSome (S.state source.old).left
+        (λ _. (S.state source.new).left ≡ Some [])) }
     ensures short { IfOk result (λ bytes. vec_len bytes ≤ 2 ^ 26) }
-    ensures steady { OnOk result (S.faults source.new ≡ S.faults source.old) }
-    ensures cause { IfErr result (λ fault. HasReadCause fault (S.left source.old)
-        (S.faults source.old) (S.faults source.new)) }
+    ensures steady { OnOk result ((S.state source.new).faults ≡ (S.state source.old).faults) }
+    ensures cause { IfErr result (λ fault.
+        HasReadCause fault (S.state source.old) (S.state source.new)) }
     // Where no count of faults can have risen, the length alone decides, up to want of memory.
-    ensures exact { IfSome (S.left source.old) (λ all.
-        ¬ Rose (S.faults source.old) (S.faults source.new) → IsReadAnswer all result) }
-    ensures rest { (n : ℕ) × (S.left source.new ≡ left_after n (S.left source.old)) }
-    ensures never_falls { S.faults source.old ≤ S.faults source.new }
-    ensures few_reads { S.calls source.new ≤ S.calls source.old + (2 ^ 26 + 1) }
+    ensures exact { IfSome (S.state source.old).left (λ all.
+        ¬ Rose (S.state source.old).faults (S.state source.new).faults → IsReadAnswer all result) }
+    ensures rest { (n : ℕ) × ((S.state source.new).left ≡ left_after n (S.state source.old).left) }
+    ensures never_falls { (S.state source.old).faults ≤ (S.state source.new).faults }
+    ensures few_reads { (S.state source.new).calls ≤ (S.state source.old).calls + (2 ^ 26 + 1) }
 {
     let mut bytes = Vec::new(alloc);
     let mut len = 0;

@@ -88,7 +88,7 @@ impl Printer {
 
 // Writes a whole piece, or up to a fault.
 fn send<K: Sink>(sink: &mut K, piece: &[u8]) -> Result<(), SinkFault>
-    ensures { Delivers K.taken K.faults sink.old sink.new piece.now result }
+    ensures { Delivers (K.state sink.old) (K.state sink.new) piece.now result }
 {
     let mut done = 0;
     while done < piece.len() {
@@ -102,7 +102,7 @@ fn send<K: Sink>(sink: &mut K, piece: &[u8]) -> Result<(), SinkFault>
 
 // Writes what is held back.
 fn flush<K: Sink>(sink: &mut K, out: &mut Printer)
-    ensures prints { Prints K.taken K.faults sink.old out.old sink.new out.new [] }
+    ensures prints { Prints (K.state sink.old) out.old (K.state sink.new) out.new [] }
     ensures empty { IsNone out.new.fault → out.new.held ≡ [] }
 {
     if out.fault().is_none() {
@@ -114,7 +114,7 @@ fn flush<K: Sink>(sink: &mut K, out: &mut Printer)
 // Prints a piece where nothing is held back.
 fn put_first<K: Sink>(sink: &mut K, out: &mut Printer, piece: &[u8])
     requires { IsNone out.old.fault → out.old.held ≡ [] }
-    ensures { Prints K.taken K.faults sink.old out.old sink.new out.new piece.now }
+    ensures { Prints (K.state sink.old) out.old (K.state sink.new) out.new piece.now }
 {
     if out.fault().is_some() {
         return;
@@ -129,7 +129,7 @@ fn put_first<K: Sink>(sink: &mut K, out: &mut Printer, piece: &[u8])
 
 /// Prints these bytes.
 pub fn put<K: Sink>(sink: &mut K, out: &mut Printer, piece: &[u8])
-    ensures { Prints K.taken K.faults sink.old out.old sink.new out.new piece.now }
+    ensures { Prints (K.state sink.old) out.old (K.state sink.new) out.new piece.now }
 {
     if piece.len() <= out.room() && out.fault().is_none() {
         out.hold(piece);
@@ -140,7 +140,7 @@ pub fn put<K: Sink>(sink: &mut K, out: &mut Printer, piece: &[u8])
 
 // Writes what is held back, and prints a piece.
 fn put_after_flush<K: Sink>(sink: &mut K, out: &mut Printer, piece: &[u8])
-    ensures { Prints K.taken K.faults sink.old out.old sink.new out.new piece.now }
+    ensures { Prints (K.state sink.old) out.old (K.state sink.new) out.new piece.now }
 {
     flush(sink, out);
     put_first(sink, out, piece);
@@ -148,14 +148,14 @@ fn put_after_flush<K: Sink>(sink: &mut K, out: &mut Printer, piece: &[u8])
 
 /// Prints this text.
 pub fn put_text<K: Sink>(sink: &mut K, out: &mut Printer, text: &str)
-    ensures { Prints K.taken K.faults sink.old out.old sink.new out.new text.now }
+    ensures { Prints (K.state sink.old) out.old (K.state sink.new) out.new text.now }
 {
     put(sink, out, text.as_bytes());
 }
 
 /// Prints a number in decimal.
 pub fn put_number<K: Sink>(sink: &mut K, out: &mut Printer, n: usize)
-    ensures { Prints K.taken K.faults sink.old out.old sink.new out.new (decimal n) }
+    ensures { Prints (K.state sink.old) out.old (K.state sink.new) out.new (decimal n) }
 {
     let mut digits = Buffer::new();
     put(sink, out, digits.format(n).as_bytes());
@@ -163,7 +163,8 @@ pub fn put_number<K: Sink>(sink: &mut K, out: &mut Printer, n: usize)
 
 /// Prints a text and the end of its line.
 pub fn put_line<K: Sink>(sink: &mut K, out: &mut Printer, text: &str)
-    ensures { Prints K.taken K.faults sink.old out.old sink.new out.new (text.now ++ codes "\n") }
+    ensures { Prints (K.state sink.old) out.old (K.state sink.new) out.new
+        (text.now ++ codes "\n") }
 {
     put_text(sink, out, text);
     put(sink, out, b"\n");
@@ -171,7 +172,7 @@ pub fn put_line<K: Sink>(sink: &mut K, out: &mut Printer, text: &str)
 
 /// Prints what stands before the piece at a place of a list: the separator, but for the first.
 pub fn put_separator<K: Sink>(sink: &mut K, out: &mut Printer, separator: &str, place: usize)
-    ensures { Prints K.taken K.faults sink.old out.old sink.new out.new
+    ensures { Prints (K.state sink.old) out.old (K.state sink.new) out.new
         (separator_at separator.now place) }
 {
     if place > 0 {
@@ -183,7 +184,7 @@ pub fn put_separator<K: Sink>(sink: &mut K, out: &mut Printer, separator: &str, 
 /// failed since the printing began, `NoMemory` where a write wanted memory: then a first part of
 /// what was printed is written.
 pub fn finish<K: Sink>(sink: &mut K, out: &mut Printer) -> Result<(), SinkFault>
-    ensures prints { Prints K.taken K.faults sink.old out.old sink.new out.new [] }
+    ensures prints { Prints (K.state sink.old) out.old (K.state sink.new) out.new [] }
     ensures end { IsEndOf out.new result }
 {
     flush(sink, out);
@@ -196,7 +197,7 @@ pub fn finish<K: Sink>(sink: &mut K, out: &mut Printer) -> Result<(), SinkFault>
 /// Writes a text and the end of its line, and nothing else. `Failed` where a write failed,
 /// `NoMemory` where a write wanted memory: then a first part of it is written.
 pub fn print_line<K: Sink>(sink: &mut K, text: &str) -> Result<(), SinkFault>
-    ensures { Delivers K.taken K.faults sink.old sink.new (text.now ++ codes "\n") result }
+    ensures { Delivers (K.state sink.old) (K.state sink.new) (text.now ++ codes "\n") result }
 {
     let mut out = Printer::new();
     put_line(sink, &mut out, text);

@@ -1,7 +1,7 @@
 //! Where the output goes: bytes that are taken in pieces, and writes that may fail.
 
 ghost use Rattle.std.specs.Prelude.{◌≡◌, ◌+◌, ◌-◌, ◌^◌, ◌≤◌, ◌<◌, ◌↔◌, ℕ, List, [], Option, Some, None, IfOk, IfSome, IsErrOf, Contains, take, min, length};
-ghost use Rattle.bridge_outside.specs.Outside.{Writes};
+ghost use Rattle.bridge_outside.specs.Outside.{SinkState, Writes};
 
 use std::alloc::{AllocError, Global};
 use std::io::Write;
@@ -27,18 +27,15 @@ impl From<AllocError> for SinkFault {
 
 /// What takes bytes, in pieces of whatever length.
 pub trait Sink {
-    /// The bytes taken, where they are told.
-    ghost taken: { Self → Option (List ℕ) };
-
-    /// How often a write failed, up to the last value of its type. It never falls.
-    ghost faults: { Self → ℕ };
+    /// What it shows: the bytes taken, where they are told; and how often a write failed, which never falls and stays
+    /// at the last value of its type.
+    ghost state: { Self → SinkState };
 
     /// Takes the first bytes of `piece`, at least one where there is one, and answers how many.
     /// `Failed` where the write failed: then the count of faults rose. `NoMemory` for want of
     /// memory. Either leaves the bytes taken as they were.
     fn write(&mut self, piece: &[u8]) -> Result<usize, SinkFault>
-        ensures { Writes (taken self.old) (taken self.new) (faults self.old) (faults self.new)
-            piece.now result };
+        ensures { Writes (state self.old) (state self.new) piece.now result };
 }
 
 /// Takes bytes into memory, in pieces of a given length, with writes that fail as listed.
@@ -53,7 +50,7 @@ pub struct MemSink {
 }
 
 impl MemSink {
-    ghost use Rattle.bridge_outside.specs.Sinks.{bytes_taken, piece_of, failing_calls, next_call, failure_count};
+    ghost use Rattle.bridge_outside.specs.Sinks.{bytes_taken, write_piece, failing_writes, next_write, write_failures};
 
     /// A sink that has taken nothing, and takes at most `piece` bytes a write. The writes whose
     /// numbers `fail` lists fail: the first has the number 0, and the last number of the type
@@ -61,10 +58,10 @@ impl MemSink {
     pub fn new(alloc: Global, piece: usize, fail: &[usize]) -> Result<Self, AllocError>
         requires { 1 ≤ piece }
         ensures bytes { IfOk result (λ it. bytes_taken it ≡ []) }
-        ensures piece { IfOk result (λ it. piece_of it ≡ piece) }
-        ensures fail { IfOk result (λ it. failing_calls it ≡ fail.now) }
-        ensures call { IfOk result (λ it. next_call it ≡ 0) }
-        ensures faults { IfOk result (λ it. failure_count it ≡ 0) }
+        ensures piece { IfOk result (λ it. write_piece it ≡ piece) }
+        ensures fail { IfOk result (λ it. failing_writes it ≡ fail.now) }
+        ensures call { IfOk result (λ it. next_write it ≡ 0) }
+        ensures faults { IfOk result (λ it. write_failures it ≡ 0) }
     {
         Ok(MemSink {
             bytes: Vec::new(alloc),
@@ -84,23 +81,20 @@ impl MemSink {
 }
 
 impl Sink for MemSink {
-    ghost use Rattle.bridge_outside.specs.Sinks.{bytes_taken, piece_of, failing_calls, next_call, failure_count};
+    ghost use Rattle.bridge_outside.specs.Sinks.{write_piece, failing_writes, next_write, mem_sink};
     ghost use Rattle.bridge_outside.specs.declared.sink.SinkFault.TheVariants.{Failed};
 
-    ghost taken = { λ it. Some (bytes_taken it) };
-
-    ghost faults = { λ it. failure_count it };
+    ghost state = { λ it. mem_sink it };
 
     fn write(&mut self, piece: &[u8]) -> Result<usize, SinkFault>
-        ensures writes { Writes (Some (bytes_taken self.old)) (Some (bytes_taken self.new))
-            (failure_count self.old) (failure_count self.new) piece.now result }
+        ensures writes { Writes (mem_sink self.old) (mem_sink self.new) piece.now result }
         // It fails exactly at the listed calls.
         ensures listed { IsErrOf result Failed
-            ↔ Contains (failing_calls self.old) (next_call self.old) }
-        ensures piece { IfOk result (λ n. n ≡ min (piece_of self.old) (length piece.now)) }
-        ensures counted { next_call self.new ≡ min (next_call self.old + 1) (2 ^ 64 - 1) }
-        ensures same_list { failing_calls self.new ≡ failing_calls self.old }
-        ensures same_piece { piece_of self.new ≡ piece_of self.old }
+            ↔ Contains (failing_writes self.old) (next_write self.old) }
+        ensures piece { IfOk result (λ n. n ≡ min (write_piece self.old) (length piece.now)) }
+        ensures counted { next_write self.new ≡ min (next_write self.old + 1) (2 ^ 64 - 1) }
+        ensures same_list { failing_writes self.new ≡ failing_writes self.old }
+        ensures same_piece { write_piece self.new ≡ write_piece self.old }
     {
         let call = self.call;
         self.call = call.saturating_add(1);
@@ -141,16 +135,13 @@ impl PlainSink {
 }
 
 impl Sink for PlainSink {
-    ghost use Rattle.bridge_outside.specs.Sinks.{plain_taken};
+    ghost use Rattle.bridge_outside.specs.Sinks.{plain_sink};
     ghost use Rattle.bridge_outside.specs.declared.sink.SinkFault.TheVariants.{Failed};
 
-    ghost taken = { λ it. Some (plain_taken it) };
-
-    ghost faults = { λ _. 0 };
+    ghost state = { λ it. plain_sink it };
 
     fn write(&mut self, piece: &[u8]) -> Result<usize, SinkFault>
-        ensures writes { Writes (Some (plain_taken self.old)) (Some (plain_taken self.new)) 0 0
-            piece.now result }
+        ensures writes { Writes (plain_sink self.old) (plain_sink self.new) piece.now result }
         ensures whole { IfOk result (λ n. n ≡ length piece.now) }
         ensures never_fails { ¬ IsErrOf result Failed }
     {
@@ -169,12 +160,12 @@ pub struct StdSink<W> {
 
 impl<W: Write> StdSink<W> {
     ghost use Rattle.std.specs.Io.KnownBytes.{Appends};
-    ghost use Rattle.bridge_outside.specs.Sinks.{std_writer, std_failures};
+    ghost use Rattle.bridge_outside.specs.Sinks.{std_writer, std_write_failures};
 
     /// A sink that writes to the writer.
     pub fn new(writer: W) -> StdSink<W>
         ensures writer { std_writer result ≡ writer }
-        ensures faults { std_failures result ≡ 0 }
+        ensures faults { std_write_failures result ≡ 0 }
     {
         StdSink {
             writer,
@@ -188,7 +179,7 @@ impl<W: Write> StdSink<W> {
         ensures some { IfSome result (λ n. 0 < length piece.now → 0 < n) }
         ensures bytes { IfSome result (λ n. Appends (W.contents (std_writer self.old))
             (W.contents (std_writer self.new)) (take n piece.now)) }
-        ensures faults { std_failures self.new ≡ std_failures self.old }
+        ensures faults { std_write_failures self.new ≡ std_write_failures self.old }
     {
         let n = self.writer.write(piece).ok()?;
         if n == 0 && !piece.is_empty() {
@@ -201,16 +192,13 @@ impl<W: Write> StdSink<W> {
 
 impl<W: Write> Sink for StdSink<W> {
     ghost use Rattle.std.specs.Io.KnownBytes.{Appends};
-    ghost use Rattle.bridge_outside.specs.Sinks.{std_writer, std_failures};
+    ghost use Rattle.bridge_outside.specs.Sinks.{std_writer, std_sink};
     ghost use Rattle.bridge_outside.specs.declared.sink.SinkFault.TheVariants.{NoMemory};
 
-    ghost taken = { λ _. None };
-
-    ghost faults = { λ it. std_failures it };
+    ghost state = { λ it. std_sink it };
 
     fn write(&mut self, piece: &[u8]) -> Result<usize, SinkFault>
-        ensures writes { Writes None None (std_failures self.old) (std_failures self.new)
-            piece.now result }
+        ensures writes { Writes (std_sink self.old) (std_sink self.new) piece.now result }
         // Where the writer knows its bytes, these came to them.
         ensures bytes { IfOk result (λ n. Appends (W.contents (std_writer self.old))
             (W.contents (std_writer self.new)) (take n piece.now)) }

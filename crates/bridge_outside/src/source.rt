@@ -1,7 +1,7 @@
 //! Where the input comes from: bytes that are read in pieces, and reads that may fail.
 
 ghost use Rattle.std.specs.Prelude.{◌≡◌, ◌+◌, ◌-◌, ◌^◌, ◌≤◌, ◌↔◌, ◌++◌, ℕ, List, Option, Some, None, IfOk, IsErr, IsOk, Contains, drop, take, min, length};
-ghost use Rattle.bridge_outside.specs.Outside.{Reads};
+ghost use Rattle.bridge_outside.specs.Outside.{Reads, SourceState};
 
 use std::alloc::{AllocError, Global};
 use std::io::Read;
@@ -12,22 +12,15 @@ pub struct Failed;
 
 /// Bytes that are read from the front, in pieces of whatever length.
 pub trait Source {
-    /// The bytes left, where they are told.
-    ghost left: { Self → Option (List ℕ) };
-
-    /// How often a read failed, up to the last value of its type. It never falls.
-    ghost faults: { Self → ℕ };
-
-    /// How often it was read, as far as it counts that: a read adds at most one.
-    ghost calls: { Self → ℕ };
+    /// What it shows: the bytes left, where they are told; how often a read failed, which never falls and stays
+    /// at the last value of its type; and how often it was read, as far as it counts that.
+    ghost state: { Self → SourceState };
 
     /// Moves the first bytes left to the front of `buf`, and answers how many. For a `buf` with
     /// room that is 0 only at the end. `Failed` where the read failed: then all is left as it was,
     /// and the count of faults rose.
     fn read(&mut self, buf: &mut [u8]) -> Result<usize, Failed>
-        ensures reads { Reads (left self.old) (left self.new) (faults self.old) (faults self.new)
-            buf.old buf.new result }
-        ensures one_call { calls self.new ≤ calls self.old + 1 };
+        ensures { Reads (state self.old) (state self.new) buf.old buf.new result };
 }
 
 // Copies as many of the first bytes of `rest` as `most` and the room allow.
@@ -54,7 +47,7 @@ pub struct MemSource {
 }
 
 impl MemSource {
-    ghost use Rattle.bridge_outside.specs.Sources.{bytes_left, piece_of, failing_calls, next_call, failure_count};
+    ghost use Rattle.bridge_outside.specs.Sources.{bytes_left, read_piece, failing_reads, next_read, read_failures};
 
     /// A source of a copy of `bytes`, at most `piece` a read. The reads whose numbers `fail` lists
     /// fail: the first has the number 0, and the last number of the type stays.
@@ -66,10 +59,10 @@ impl MemSource {
     ) -> Result<Self, AllocError>
         requires { 1 ≤ piece }
         ensures bytes { IfOk result (λ it. bytes_left it ≡ bytes.now) }
-        ensures piece { IfOk result (λ it. piece_of it ≡ piece) }
-        ensures fail { IfOk result (λ it. failing_calls it ≡ fail.now) }
-        ensures call { IfOk result (λ it. next_call it ≡ 0) }
-        ensures faults { IfOk result (λ it. failure_count it ≡ 0) }
+        ensures piece { IfOk result (λ it. read_piece it ≡ piece) }
+        ensures fail { IfOk result (λ it. failing_reads it ≡ fail.now) }
+        ensures call { IfOk result (λ it. next_read it ≡ 0) }
+        ensures faults { IfOk result (λ it. read_failures it ≡ 0) }
     {
         Ok(MemSource {
             bytes: Vec::from_slice(alloc, bytes)?,
@@ -83,26 +76,20 @@ impl MemSource {
 }
 
 impl Source for MemSource {
-    ghost use Rattle.bridge_outside.specs.Sources.{bytes_left, piece_of, failing_calls, next_call, failure_count};
+    ghost use Rattle.bridge_outside.specs.Sources.{bytes_left, read_piece, failing_reads, next_read, mem_source};
 
-    ghost left = { λ it. Some (bytes_left it) };
-
-    ghost faults = { λ it. failure_count it };
-
-    ghost calls = { λ it. next_call it };
+    ghost state = { λ it. mem_source it };
 
     fn read(&mut self, buf: &mut [u8]) -> Result<usize, Failed>
-        ensures reads { Reads (Some (bytes_left self.old)) (Some (bytes_left self.new))
-            (failure_count self.old) (failure_count self.new) buf.old buf.new result }
-        ensures one_call { next_call self.new ≤ next_call self.old + 1 }
+        ensures reads { Reads (mem_source self.old) (mem_source self.new) buf.old buf.new result }
         // It fails exactly at the listed calls.
-        ensures listed { IsErr result ↔ Contains (failing_calls self.old) (next_call self.old) }
+        ensures listed { IsErr result ↔ Contains (failing_reads self.old) (next_read self.old) }
         // It gives as much as the piece and the room allow.
         ensures piece { IfOk result (λ n.
-            n ≡ min (min (piece_of self.old) (length (bytes_left self.old))) (length buf.old)) }
-        ensures counted { next_call self.new ≡ min (next_call self.old + 1) (2 ^ 64 - 1) }
-        ensures same_list { failing_calls self.new ≡ failing_calls self.old }
-        ensures same_piece { piece_of self.new ≡ piece_of self.old }
+            n ≡ min (min (read_piece self.old) (length (bytes_left self.old))) (length buf.old)) }
+        ensures counted { next_read self.new ≡ min (next_read self.old + 1) (2 ^ 64 - 1) }
+        ensures same_list { failing_reads self.new ≡ failing_reads self.old }
+        ensures same_piece { read_piece self.new ≡ read_piece self.old }
     {
         let call = self.call;
         self.call = call.saturating_add(1);
@@ -124,12 +111,12 @@ pub struct PlainSource<'a> {
 }
 
 impl<'a> PlainSource<'a> {
-    ghost use Rattle.bridge_outside.specs.Sources.{plain_left, plain_calls};
+    ghost use Rattle.bridge_outside.specs.Sources.{plain_left, plain_reads};
 
     /// A source of these bytes.
     pub fn new(bytes: &'a [u8]) -> Self
         ensures bytes { plain_left result ≡ bytes.entry.now }
-        ensures calls { plain_calls result ≡ 0 }
+        ensures calls { plain_reads result ≡ 0 }
     {
         PlainSource {
             rest: bytes,
@@ -139,20 +126,15 @@ impl<'a> PlainSource<'a> {
 }
 
 impl Source for PlainSource<'_> {
-    ghost use Rattle.bridge_outside.specs.Sources.{plain_left, plain_calls};
+    ghost use Rattle.bridge_outside.specs.Sources.{plain_reads, plain_source};
 
-    ghost left = { λ it. Some (plain_left it) };
-
-    ghost faults = { λ _. 0 };
-
-    ghost calls = { λ it. plain_calls it };
+    ghost state = { λ it. plain_source it };
 
     fn read(&mut self, buf: &mut [u8]) -> Result<usize, Failed>
-        ensures reads { Reads (Some (plain_left self.old)) (Some (plain_left self.new)) 0 0
+        ensures reads { Reads (plain_source self.old) (plain_source self.new)
             buf.old buf.new result }
-        ensures one_call { plain_calls self.new ≤ plain_calls self.old + 1 }
         ensures never_fails { IsOk result }
-        ensures counted { plain_calls self.new ≡ min (plain_calls self.old + 1) (2 ^ 64 - 1) }
+        ensures counted { plain_reads self.new ≡ min (plain_reads self.old + 1) (2 ^ 64 - 1) }
     {
         self.calls = self.calls.saturating_add(1);
         let n = copy_front(self.rest, self.rest.len(), buf);
@@ -171,13 +153,13 @@ pub struct StdSource<R> {
 }
 
 impl<R: Read> StdSource<R> {
-    ghost use Rattle.bridge_outside.specs.Sources.{std_reader, std_failures, std_calls};
+    ghost use Rattle.bridge_outside.specs.Sources.{std_reader, std_read_failures, std_reads};
 
     /// A source of what the reader gives.
     pub fn new(reader: R) -> StdSource<R>
         ensures reader { std_reader result ≡ reader }
-        ensures faults { std_failures result ≡ 0 }
-        ensures calls { std_calls result ≡ 0 }
+        ensures faults { std_read_failures result ≡ 0 }
+        ensures calls { std_reads result ≡ 0 }
     {
         StdSource {
             reader,
@@ -189,22 +171,16 @@ impl<R: Read> StdSource<R> {
 
 impl<R: Read> Source for StdSource<R> {
     ghost use Rattle.std.specs.Io.KnownBytes.{ReadConsumes};
-    ghost use Rattle.bridge_outside.specs.Sources.{std_reader, std_failures, std_calls};
+    ghost use Rattle.bridge_outside.specs.Sources.{std_reader, std_reads, std_source};
 
-    ghost left = { λ _. None };
-
-    ghost faults = { λ it. std_failures it };
-
-    ghost calls = { λ it. std_calls it };
+    ghost state = { λ it. std_source it };
 
     fn read(&mut self, buf: &mut [u8]) -> Result<usize, Failed>
-        ensures reads { Reads None None (std_failures self.old) (std_failures self.new)
-            buf.old buf.new result }
-        ensures one_call { std_calls self.new ≤ std_calls self.old + 1 }
+        ensures reads { Reads (std_source self.old) (std_source self.new) buf.old buf.new result }
         // Where the reader knows its bytes, these are the next of them.
-        ensures bytes { ReadConsumes (R.remaining (std_reader self.old)) (R.remaining (std_reader self.new))
-            result buf.new }
-        ensures counted { std_calls self.new ≡ min (std_calls self.old + 1) (2 ^ 64 - 1) }
+        ensures bytes { ReadConsumes (R.remaining (std_reader self.old))
+            (R.remaining (std_reader self.new)) result buf.new }
+        ensures counted { std_reads self.new ≡ min (std_reads self.old + 1) (2 ^ 64 - 1) }
     {
         self.calls = self.calls.saturating_add(1);
         match self.reader.read(buf) {

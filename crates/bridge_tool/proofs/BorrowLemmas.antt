@@ -14,17 +14,17 @@ use Rattle.bridge_decl.specs.declared.types.TypeName.{out-TypeName}
 use Rattle.bridge_decl.specs.declared.methods.Method.{Method}
 use Rattle.bridge_decl.specs.declared.methods.Param.{Param}
 use Rattle.bridge_decl.specs.Lifetimes.{lifetime_names}
-use Rattle.bridge_tool.specs.declared.report.InputPlace.{InputPlace}
-use Rattle.bridge_tool.specs.declared.report.InputPlace.TheVariants.{Receiver, Param as Parameter}
-use Rattle.bridge_tool.specs.declared.report.LeafPath.{LeafPath}
-use Rattle.bridge_tool.specs.declared.report.ReportEdge.{ReportEdge}
-use Rattle.bridge_tool.specs.declared.report.ReturnedLifetime.{ReturnedLifetime}
-use Rattle.bridge_tool.specs.Borrows.{Leaf, numbers, leaves_at, param_leaves, leaves, named, Carries, IsReturned}
+use Rattle.bridge_tool.specs.declared.borrowing.InputPlace.{InputPlace}
+use Rattle.bridge_tool.specs.declared.borrowing.InputPlace.TheVariants.{Receiver, Param as Parameter}
+use Rattle.bridge_tool.specs.declared.borrowing.LeafPath.{LeafPath}
+use Rattle.bridge_tool.specs.declared.borrowing.ReportEdge.{ReportEdge}
+use Rattle.bridge_tool.specs.declared.borrowing.ReturnedLifetime.{ReturnedLifetime}
+use Rattle.bridge_tool.specs.Borrows.{Leaf, numbers, leaves_at, param_leaves, leaves, returned_numbers, Carries, IsReturned}
 use Rattle.bridge_tool.specs.Checks.{type_lifetimes, receiver_lifetimes, returned_lifetimes}
-use Rattle.bridge_tool.specs.Chosen.{Chosen}
-use Rattle.bridge_tool.specs.Index.{number_of}
-use Rattle.bridge_tool.specs.Leaves.{IsInRange, AreInRange, paths_of, edges_of, Lists}
-use Rattle.bridge_tool.proofs.NumberLemmas.{number_found}
+use Rattle.bridge_tool.specs.Chosen.{Chosen, EachPair}
+use Rattle.bridge_decl.specs.NameIndex.{number_of}
+use Rattle.bridge_tool.specs.inside.Listing.{IsInRange, AreInRange, paths_of, edges_of, Lists}
+use Rattle.bridge_decl.proofs.NameIndexLemmas.{number_of_some}
 
 -- a parameter more at the end
 pub param_leaves-push : (env : LifetimeEnv) (n m : ℕ) (params : List Param) (param : Param) → n + length params ≡ m
@@ -53,11 +53,7 @@ all_params env params i initial now le so_far = so_far ∙ ap (λ ps. initial ++
 
 -- a number is that of a lifetime of the environment
 pub number_below : (names : List (List ℕ)) (name : List ℕ) (k : ℕ) → number_of names name ≡ Some k → k < length names
-number_below names name k e =
-    elim ((slice_get_cases names k).1) [
-      | inl p ↦ p.1
-      | inr p ↦ absurd (let found : slice_get names k ≡ Some name = number_found names name k e in let none : slice_get names k ≡ None = p.1 in cc)
-    ]
+number_below names name k e = (number_of_some names name k e).0
 
 pub numbers_of_name : (env : LifetimeEnv) (name : List ℕ) (number : Option ℕ) → number_of (lifetime_names env) name ≡ number
     → AllByRecursion (λ n. n < length env.nodes) (option_to_list number ++ [])
@@ -107,8 +103,17 @@ all_numbers_in_range env (lifetime ∷ lifetimes) =
     rw flat_map-cons (All-append (λ n. n < length env.nodes) (numbers env lifetime) (flat_map (numbers env) lifetimes) (numbers_in_range env lifetime) (all_numbers_in_range env lifetimes))
 
 -- the lifetime that a return names is one of the environment
-pub named_in_range : (method : Method) (number : ℕ) → number ∷ [] ≡ named method → number < length method.lifetime_env.nodes
+pub named_in_range : (method : Method) (number : ℕ) → number ∷ [] ≡ returned_numbers method → number < length method.lifetime_env.nodes
 named_in_range method number h =
     let all : All (λ n. n < length method.lifetime_env.nodes) (number ∷ []) =
     subst (All (λ n. n < length method.lifetime_env.nodes)) (sym h) (all_numbers_in_range method.lifetime_env (returned_lifetimes method.return_type)) in
     all 0 0 (omega arith)
+
+-- what may be borrowed under the one lifetime that a return names is the borrowing of the callable
+pub one_returned : (callable method : Method) → callable ≡ method → (number t : ℕ) → number ∷ [] ≡ returned_numbers method → t ≡ number → (returned : ReturnedLifetime)
+    → IsReturned method t returned → (made : List ReturnedLifetime) → made ≡ returned ∷ [] → EachPair (IsReturned callable) (returned_numbers callable) made
+one_returned callable method same number t numbered is returned holds made made_is =
+    let here : IsReturned method number returned = subst (λ (k : ℕ). IsReturned method k returned) is holds in
+    let one : EachPair (IsReturned method) (number ∷ []) made = subst (λ (rs : List ReturnedLifetime). EachPair (IsReturned method) (number ∷ []) rs) (sym made_is) (here, tt) in
+    let all : EachPair (IsReturned method) (returned_numbers method) made = subst (λ (ns : List ℕ). EachPair (IsReturned method) ns made) numbered one in
+    subst (λ (m : Method). EachPair (IsReturned m) (returned_numbers m) made) (sym same) all

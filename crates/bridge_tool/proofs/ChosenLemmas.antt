@@ -4,7 +4,7 @@ use Rattle.std.specs.Prelude.{All}
 use Rattle.std.specs.List.{flat_map}
 use Rattle.std.proofs.lemmas.List.{append-nil, take_more, take_all, flat_map_more}
 use Rattle.bridge_tool.specs.Chosen.{Chosen}
-use Rattle.bridge_tool.specs.Reports.{Appends}
+use Rattle.bridge_tool.specs.inside.Reporting.{Appends}
 
 pub chosen-append : {A : Type 0} (P : A → Type 0) (xs xs' ys ys' : List A) → Chosen P xs ys → Chosen P xs' ys' → Chosen P (xs ++ xs') (ys ++ ys')
 chosen-append P [] xs' ys ys' h k = rw h k

@@ -1,40 +1,43 @@
--- The headline, from what a run did by its status.
+-- The headline and completeness, from what each status says.
 use Rattle.std.proofs.Common.{◌≡◌, ◌≢◌, ℕ, ◌≤◌, ◌<◌, ◌^◌, List, [], ◌∷◌, length, Option, Some, refl, sym, ap, subst, ◌∙◌, arith, inl, inr}
 use Rattle.std.specs.Prelude.{◌⊎◌, IfSome, String}
 use Rattle.std.specs.declared.alloc.Global.{Global}
 use Rattle.bridge_decl.specs.declared.modules.Module.{Module}
+use Rattle.bridge_read.specs.declared.input.Input.{Input}
+use Rattle.bridge_read.proofs.InputLaws.{spelled_once}
+use Rattle.bridge_outside.specs.Outside.{SourceState}
 use Rattle.bridge_tool.specs.declared.status.Status.{Status}
 use Rattle.bridge_tool.specs.declared.status.Status.TheVariants as status
 use Rattle.bridge_tool.specs.Breaks.{BreakNothing}
-use Rattle.bridge_tool.specs.Headline.{Headline, IsComplete, IsUndisturbed}
-use Rattle.bridge_tool.specs.Lines.{Reported, AreRefusedBy}
-use Rattle.bridge_tool.specs.Page.{IsPage}
-use Rattle.bridge_read.specs.declared.input.Input.{Input}
 use Rattle.bridge_tool.specs.Built.{AreBuilt}
 use Rattle.bridge_tool.specs.Declining.{IsDeclinedBy}
-use Rattle.bridge_tool.specs.Running.{World, Ran, Spells, WereRead}
+use Rattle.bridge_tool.specs.Headline.{AnswersDeclarations, Headline, IsComplete, IsUndisturbed, Settles}
+use Rattle.bridge_tool.specs.Lines.{Reported, AreRefusedBy}
+use Rattle.bridge_tool.specs.Page.{IsPage}
+use Rattle.bridge_tool.specs.Running.{World, Says, Spells, WereRead}
 use Rattle.bridge_tool.specs.Statuses.{code_of}
 use Rattle.bridge_tool.proofs.JudgeLemmas.{contains_first}
-use Rattle.bridge_read.proofs.InputLaws.{spelled_once}
 
 -- what holds of what is told
 if_told : {A : Type 0} (P : A → Type 0) {left : Option A} {had : A} → IfSome left P → left ≡ Some had → P had
 if_told {A} P {left} {had} h told = subst (λ (o : Option A). IfSome o P) told h
 
 -- the bytes read are those that the source had
-read_told : {old new : World} {bytes had : List ℕ} → WereRead old new bytes → old.left ≡ Some had → bytes ≡ had
+read_told : {old new : SourceState} {bytes had : List ℕ} → WereRead old new bytes → old.left ≡ Some had → bytes ≡ had
 read_told {bytes = bytes} read told = if_told (λ all. bytes ≡ all) read.all told
+
+-- so they are at most 2^26
+read_short : {old new : SourceState} {bytes had : List ℕ} → WereRead old new bytes → old.left ≡ Some had → length had ≤ 2 ^ 26
+read_short {bytes = bytes} {had} read told = let e : length bytes ≡ length had = ap length (read_told read told) in let few = read.short in omega arith
+
+-- and what the bytes read spell, those of the source spell
+spells_told : {old new : SourceState} {bytes had : List ℕ} (modules : List Module) → WereRead old new bytes → old.left ≡ Some had → Spells bytes modules → Spells had modules
+spells_told modules read told spells = subst (λ (b : List ℕ). Spells b modules) (read_told read told) spells
 
 -- bytes spell one list of modules
 spelled_one : (bytes : List ℕ) (modules others : List Module) → Spells bytes modules → Spells bytes others → modules ≡ others
 spelled_one bytes modules others one other =
     one.is ∙ ap (λ (i : Input). i.env) (spelled_once bytes one.input other.input one.spelled other.spelled) ∙ sym other.is
-
--- the bytes read spell the declarations that those of the source spell
-same_modules : {old new : World} {bytes had : List ℕ} (modules others : List Module) → WereRead old new bytes → old.left ≡ Some had → Spells bytes others → Spells had modules
-    → others ≡ modules
-same_modules {old} {new} {bytes} {had} modules others read told there spells =
-    spelled_one had others modules (subst (λ (b : List ℕ). Spells b others) (read_told read told) there) spells
 
 -- what is refused breaks a rule
 refused_breaks : (modules : List Module) (reports : List Reported) → AreRefusedBy modules reports → ¬ (BreakNothing modules)
@@ -48,81 +51,88 @@ declined_spells_nothing bytes line (inr unbuilt) modules = λ spells.
     unbuilt.unbuilt (subst AreBuilt (spells.is ∙ ap (λ (i : Input). i.env) (spelled_once bytes spells.input unbuilt.input spells.spelled unbuilt.spelled)) spells.built)
 
 -- the headline, for each status but that of want of memory
-pub headline_of : (words : List (String Global)) (old new : World) (had : List ℕ) (modules : List Module) (end : Status) → Ran words old new end
-    → IsUndisturbed words old new had → length had ≤ 2 ^ 26 → Spells had modules → code_of end ≢ 5 → Headline modules old new (code_of end)
-headline_of words old new had modules status.Accepted r told short spells memory =
-    let a = r.1 in
-    let same : a.modules ≡ modules = same_modules modules a.modules a.read told.told a.accepted.spells spells in
-    let keeps : BreakNothing modules = subst BreakNothing same a.accepted.keeps in
+answers_end : (words : List (String Global)) (old new : World) (had : List ℕ) (modules : List Module) (end : Status) → Says words old new end
+    → IsUndisturbed words old new had → length had ≤ 2 ^ 26 → Spells had modules → code_of end ≢ 5 → AnswersDeclarations modules old new (code_of end)
+answers_end words old new had modules status.Accepted r told short spells memory =
+    let read = r.1.1 in let text = r.1.2.0 in let answer = r.1.2.1 in
+    let same : answer.0 ≡ modules = spelled_one had answer.0 modules (spells_told answer.0 read told.told answer.1) spells in
+    let keeps : BreakNothing modules = subst BreakNothing same answer.2 in
     record {
       accepts = (λ e. keeps, λ k. refl);
-      page = λ e. (a.page, subst (λ m. IsPage m a.page) same a.is_page, a.taken.taken);
+      page = λ e. (text, subst (λ m. IsPage m text) same answer.3, r.1.2.2.taken);
       refuses = λ n. absurd (n refl);
       reports = λ e. absurd (omega arith);
-      none_left = if_told (λ all. new.left ≡ Some []) a.read.none_left told.told;
+      none_left = if_told (λ all. new.source.left ≡ Some []) read.none_left told.told;
     }
-headline_of words old new had modules status.Refused r told short spells memory =
-    let a = r.1 in
-    let same : a.modules ≡ modules = same_modules modules a.modules a.read told.told a.spells spells in
-    let refused : AreRefusedBy modules a.reports = subst (λ m. AreRefusedBy m a.reports) same a.refused in
+answers_end words old new had modules status.Refused r told short spells memory =
+    let read = r.1.1 in let text = r.1.2.0 in let answer = r.1.2.1 in
+    let same : answer.0 ≡ modules = spelled_one had answer.0 modules (spells_told answer.0 read told.told answer.2) spells in
+    let refused : AreRefusedBy modules answer.1 = subst (λ m. AreRefusedBy m answer.1) same answer.3 in
     record {
-      accepts = (λ e. absurd (omega arith), λ keep. absurd (refused_breaks modules a.reports refused keep));
+      accepts = (λ e. absurd (omega arith), λ keep. absurd (refused_breaks modules answer.1 refused keep));
       page = λ e. absurd (omega arith);
       refuses = λ n. refl;
-      reports = λ e. (a.reports, refused, a.taken.taken);
-      none_left = if_told (λ all. new.left ≡ Some []) a.read.none_left told.told;
+      reports = λ e. (answer.1, refused, rw (sym answer.4) r.1.2.2.taken);
+      none_left = if_told (λ all. new.source.left ≡ Some []) read.none_left told.told;
     }
-headline_of words old new had modules status.NotDeclarations r told short spells memory =
-    absurd (declined_spells_nothing r.1.bytes r.1.line r.1.declined modules (subst (λ (b : List ℕ). Spells b modules) (sym (read_told r.1.read told.told)) spells))
-headline_of words old new had modules status.ReadFailed r told short spells memory = absurd (told.no_read_failed r.1)
-headline_of words old new had modules status.WriteFailed r told short spells memory = absurd (told.no_write_failed r.1.failed)
-headline_of words old new had modules status.NoMemory r told short spells memory = absurd (memory refl)
-headline_of words old new had modules status.BadWords r told short spells memory = absurd (r.0 told.command)
-headline_of words old new had modules status.TooLong r told short spells memory = absurd (let long = if_told (λ all. 2 ^ 26 < length all) r.1 told.told in omega arith)
+answers_end words old new had modules status.NotDeclarations r told short spells memory =
+    absurd (declined_spells_nothing had r.1.2.0 (subst (λ b. IsDeclinedBy b r.1.2.0) (read_told r.1.1 told.told) r.1.2.1) modules spells)
+answers_end words old new had modules status.ReadFailed r told short spells memory = absurd (told.no_read_failed r.1)
+answers_end words old new had modules status.WriteFailed r told short spells memory = absurd (told.no_write_failed r.1)
+answers_end words old new had modules status.NoMemory r told short spells memory = absurd (memory refl)
+answers_end words old new had modules status.BadWords r told short spells memory = absurd (r.0 told.command)
+answers_end words old new had modules status.TooLong r told short spells memory = absurd (let long = if_told (λ all. 2 ^ 26 < length all) r.1.long told.told in omega arith)
 
--- what a status other than that of want of memory settles
-settled : (old new : World) (had : List ℕ) (code : ℕ) → ((modules : List Module) → Spells had modules → Headline modules old new code) → (((modules : List Module) → ¬ (Spells had modules)) → code ≡ 2) → IsComplete had code
-settled old new had code headline declined = record {
-  accepted = λ modules spells keep. inl ((headline modules spells).accepts.1 keep);
-  refused = λ modules spells breaks. inl ((headline modules spells).refuses (λ zero. breaks ((headline modules spells).accepts.0 zero)));
-  declined = λ none. inl (declined none);
+pub headline_of : (words : List (String Global)) (old new : World) (end : Status) → Says words old new end → Headline words old new (code_of end)
+headline_of words old new end says = λ had modules told short spells memory. answers_end words old new had modules end says told short spells memory
+
+-- bytes that spell declarations settle the status by whether these break a rule
+keeping_settles : (had : List ℕ) (modules : List Module) → length had ≤ 2 ^ 26 → Spells had modules → BreakNothing modules → Settles had 0
+keeping_settles had modules short spells keeps = record {
+  accepted = (λ e. (short, (modules, spells, keeps)), λ row. refl);
+  refused = (λ e. absurd (omega arith), λ row. absurd (row.1.2 (subst BreakNothing (spelled_one had modules row.1.0 spells row.1.1) keeps)));
+  declined = (λ e. absurd (omega arith), λ row. absurd (row.1 modules spells));
+  too_long = (λ e. absurd (omega arith), λ long. absurd (omega arith));
 }
 
--- bytes that were read and spell declarations do spell some
-spells_some : {old new : World} {bytes had : List ℕ} (modules : List Module) → WereRead old new bytes → old.left ≡ Some had → Spells bytes modules → ((other : List Module) → ¬ (Spells had other)) → ⊥
-spells_some {bytes = bytes} modules read told spells none = none modules (subst (λ (b : List ℕ). Spells b modules) (read_told read told) spells)
-
-pub complete_of : (words : List (String Global)) (old new : World) (had : List ℕ) (end : Status) → Ran words old new end
-    → IsUndisturbed words old new had → length had ≤ 2 ^ 26 → IsComplete had (code_of end)
-complete_of words old new had status.Accepted r told short =
-    settled old new had 0 (λ modules spells. headline_of words old new had modules status.Accepted r told short spells (omega arith))
-    (λ none. absurd (spells_some r.1.modules r.1.read told.told r.1.accepted.spells none))
-complete_of words old new had status.Refused r told short =
-    settled old new had 1 (λ modules spells. headline_of words old new had modules status.Refused r told short spells (omega arith))
-    (λ none. absurd (spells_some r.1.modules r.1.read told.told r.1.spells none))
-complete_of words old new had status.NotDeclarations r told short =
-    settled old new had 2 (λ modules spells. headline_of words old new had modules status.NotDeclarations r told short spells (omega arith)) (λ none. refl)
-complete_of words old new had status.ReadFailed r told short = absurd (told.no_read_failed r.1)
-complete_of words old new had status.WriteFailed r told short = absurd (told.no_write_failed r.1.failed)
-complete_of words old new had status.NoMemory r told short = record {
-  accepted = λ modules spells keep. inr refl;
-  refused = λ modules spells breaks. inr refl;
-  declined = λ none. inr refl;
+breaking_settles : (had : List ℕ) (modules : List Module) → length had ≤ 2 ^ 26 → Spells had modules → ¬ (BreakNothing modules) → Settles had 1
+breaking_settles had modules short spells breaks = record {
+  accepted = (λ e. absurd (omega arith), λ row. absurd (breaks (subst BreakNothing (spelled_one had row.1.0 modules row.1.1 spells) row.1.2)));
+  refused = (λ e. (short, (modules, spells, breaks)), λ row. refl);
+  declined = (λ e. absurd (omega arith), λ row. absurd (row.1 modules spells));
+  too_long = (λ e. absurd (omega arith), λ long. absurd (omega arith));
 }
-complete_of words old new had status.BadWords r told short = absurd (r.0 told.command)
-complete_of words old new had status.TooLong r told short = absurd (let long = if_told (λ all. 2 ^ 26 < length all) r.1 told.told in omega arith)
 
--- more bytes than the limit are all that is told of the source
-not_read_whole : {old new : World} {bytes had : List ℕ} → WereRead old new bytes → old.left ≡ Some had → 2 ^ 26 < length had → ⊥
-not_read_whole {bytes = bytes} {had} read told long = let e : length bytes ≡ length had = ap length (read_told read told) in let few = read.short in omega arith
+-- bytes that spell none, or are too long, settle it too
+spelling_none_settles : (had : List ℕ) → length had ≤ 2 ^ 26 → ((modules : List Module) → ¬ (Spells had modules)) → Settles had 2
+spelling_none_settles had short none = record {
+  accepted = (λ e. absurd (omega arith), λ row. absurd (none row.1.0 row.1.1));
+  refused = (λ e. absurd (omega arith), λ row. absurd (none row.1.0 row.1.1));
+  declined = (λ e. (short, none), λ row. refl);
+  too_long = (λ e. absurd (omega arith), λ long. absurd (omega arith));
+}
 
-pub too_long_of : (words : List (String Global)) (old new : World) (had : List ℕ) (end : Status) → Ran words old new end
-    → IsUndisturbed words old new had → 2 ^ 26 < length had → (code_of end ≡ 7) ⊎ (code_of end ≡ 5)
-too_long_of words old new had status.Accepted r told long = absurd (not_read_whole r.1.read told.told long)
-too_long_of words old new had status.Refused r told long = absurd (not_read_whole r.1.read told.told long)
-too_long_of words old new had status.NotDeclarations r told long = absurd (not_read_whole r.1.read told.told long)
-too_long_of words old new had status.ReadFailed r told long = absurd (told.no_read_failed r.1)
-too_long_of words old new had status.WriteFailed r told long = absurd (told.no_write_failed r.1.failed)
-too_long_of words old new had status.NoMemory r told long = inr refl
-too_long_of words old new had status.BadWords r told long = absurd (r.0 told.command)
-too_long_of words old new had status.TooLong r told long = inl refl
+long_settles : (had : List ℕ) → 2 ^ 26 < length had → Settles had 7
+long_settles had long = record {
+  accepted = (λ e. absurd (omega arith), λ row. absurd (let short = row.0 in omega arith));
+  refused = (λ e. absurd (omega arith), λ row. absurd (let short = row.0 in omega arith));
+  declined = (λ e. absurd (omega arith), λ row. absurd (let short = row.0 in omega arith));
+  too_long = (λ e. long, λ row. refl);
+}
+
+settles_end : (words : List (String Global)) (old new : World) (had : List ℕ) (end : Status) → Says words old new end
+    → IsUndisturbed words old new had → (code_of end ≡ 5) ⊎ Settles had (code_of end)
+settles_end words old new had status.Accepted r told = let read = r.1.1 in let answer = r.1.2.1 in
+    inr (keeping_settles had answer.0 (read_short read told.told) (spells_told answer.0 read told.told answer.1) answer.2)
+settles_end words old new had status.Refused r told = let read = r.1.1 in let answer = r.1.2.1 in
+    inr (breaking_settles had answer.0 (read_short read told.told) (spells_told answer.0 read told.told answer.2) (refused_breaks answer.0 answer.1 answer.3))
+settles_end words old new had status.NotDeclarations r told = let read = r.1.1 in
+    inr (spelling_none_settles had (read_short read told.told) (declined_spells_nothing had r.1.2.0 (subst (λ b. IsDeclinedBy b r.1.2.0) (read_told read told.told) r.1.2.1)))
+settles_end words old new had status.ReadFailed r told = absurd (told.no_read_failed r.1)
+settles_end words old new had status.WriteFailed r told = absurd (told.no_write_failed r.1)
+settles_end words old new had status.NoMemory r told = inl refl
+settles_end words old new had status.BadWords r told = absurd (r.0 told.command)
+settles_end words old new had status.TooLong r told = inr (long_settles had (if_told (λ all. 2 ^ 26 < length all) r.1.long told.told))
+
+pub complete_of : (words : List (String Global)) (old new : World) (end : Status) → Says words old new end → IsComplete words old new (code_of end)
+complete_of words old new end says = λ had told. settles_end words old new had end says told

@@ -4,9 +4,11 @@ use Rattle.std.specs.Prelude.{All, Contains}
 use Rattle.std.specs.List.{flat_map}
 use Rattle.std.proofs.lemmas.List.Concat.{flat_map-cons}
 use Rattle.std.proofs.lemmas.List.Elements.{Contains-append_left, Contains-append_right, Contains-get_or}
+use Rattle.bridge_decl.specs.declared.lifetimes.LifetimeNode.{LifetimeNode}
 use Rattle.bridge_decl.specs.declared.methods.Method.{Method}
 use Rattle.bridge_decl.specs.declared.modules.Item.{Item}
 use Rattle.bridge_decl.specs.declared.modules.Module.{Module}
+use Rattle.bridge_decl.specs.Ident.{IsIdent}
 use Rattle.bridge_decl.specs.Lifetimes.{lifetime_names}
 use Rattle.bridge_decl.specs.Names.{item_name, Place}
 use Rattle.bridge_tool.specs.declared.rules.Rule.TheVariants as rule
@@ -21,13 +23,14 @@ use Rattle.bridge_read.specs.declared.input.InputFault.{InputFault}
 use Rattle.bridge_read.specs.declared.input.InputFault.TheVariants.{NotDeclarations}
 use Rattle.bridge_tool.specs.Built.{AreBuilt}
 use Rattle.bridge_read.specs.Inputs.{IsReadAs, IsToldOf, SpellsInput}
-use Rattle.bridge_tool.specs.Judging.{Judges, JudgesModules}
+use Rattle.bridge_tool.specs.inside.Judging.{Judges, JudgesModules}
 use Rattle.bridge_tool.specs.Lines.{arg_of, rule_of}
-use Rattle.bridge_tool.specs.Reports.{TestFails}
-use Rattle.bridge_tool.specs.Signature.{HasNamedItems}
+use Rattle.bridge_tool.specs.Checks.{TestFails}
+use Rattle.bridge_tool.specs.inside.Signatures.{HasNamedItems}
 use Rattle.bridge_tool.specs.Methods.{methods_of}
-use Rattle.bridge_tool.specs.Walking.{walk_order}
-use Rattle.bridge_tool.proofs.WalkLemmas.{all_walked, get_there}
+use Rattle.bridge_tool.specs.Order.{module_order}
+use Rattle.hir_life.proofs.Declaring.{no_bad}
+use Rattle.bridge_tool.proofs.OrderLemmas.{all_ordered, get_there}
 
 pub contains_first : {A : Type 0} (x : A) (xs : List A) → Contains (x ∷ xs) x
 contains_first x xs = (0, omega arith, refl)
@@ -74,7 +77,7 @@ test_breaks modules number place (lifetime env l) there fails = record { number 
 tested_there : (modules : List Module) (i : ℕ) (d : Module) (test : Tested) → i < length modules
     → Contains (tested_in_module i (get_or modules i d)) test → Contains (tested_in modules) test
 tested_there modules i d test lt h =
-    contains_flat_map (tested_at_number modules) (walk_order modules) i test (all_walked modules i d lt) (rw (get_there modules i d lt) h)
+    contains_flat_map (tested_at_number modules) (module_order modules) i test (all_ordered modules i d lt) (rw (get_there modules i d lt) h)
 
 -- a name of a lifetime of a method is tested
 name_is_tested : (number : ℕ) (m : Module) (item : Item) (method : Method) (n : List ℕ) → Contains m.items item → Contains (methods_of item) method
@@ -94,18 +97,20 @@ name_is_tested number m item method n item_there method_there name_there =
 
 -- where no rule is broken, each lifetime's name passes
 pub names_pass : (modules : List Module) → BreakNothing modules → All HasNamedItems modules
-names_pass modules keeps h module_d module_lt i item_d item_lt j method_d method_lt k name_d name_lt = λ bad.
+names_pass modules keeps h module_d module_lt i item_d item_lt j method_d method_lt =
+    let nodes = (get_or (methods_of (get_or (get_or modules h module_d).items i item_d)) j method_d).lifetime_env.nodes in
+    no_bad (λ (node : LifetimeNode). IsIdent node.name) nodes (λ k node_d node_lt bad.
     (let m = get_or modules h module_d in
     let item = get_or m.items i item_d in
     let method = get_or (methods_of item) j method_d in
-    let n = get_or (lifetime_names method.lifetime_env) k name_d in
+    let n = (get_or nodes k node_d).name in
     let place : Place = record { path = m.path; item = item_name item; method = Some method.name } in
     let test : Tested = record { number = h; place = place; check = name n } in
     let in_module : Contains (tested_in_module h m) test =
     name_is_tested h m item method n (Contains-get_or m.items i item_d item_lt) (Contains-get_or (methods_of item) j method_d method_lt)
-    (Contains-get_or (lifetime_names method.lifetime_env) k name_d name_lt) in
+    (contains_map (λ (node : LifetimeNode). node.name) nodes (get_or nodes k node_d) (Contains-get_or nodes k node_d node_lt)) in
     let there = tested_there modules h module_d test module_lt in_module in
-    keeps rule.BadIdent place (n ∷ []) (test_breaks modules h place (name n) there bad))
+    keeps rule.BadIdent place (n ∷ []) (test_breaks modules h place (name n) there bad)))
 
 -- the verdict on the modules of an input is that on the bytes that spell it
 pub judged : (bytes : List ℕ) (input : Input) → SpellsInput bytes input → (verdict : Verdict) → JudgesModules input.env verdict → Judges bytes verdict

@@ -6,17 +6,18 @@ use Rattle.std.proofs.lemmas.Bool.{eqb-true}
 use Rattle.std.proofs.lemmas.List.{append-nil, flat_map_more, length-map}
 use Rattle.std.proofs.lemmas.List.Concat.{flat_map-cons}
 use Rattle.bridge_decl.specs.Names.{joined}
-use Rattle.bridge_tool.specs.Lines.{Reported, after, item_segments, lines, method_segments, report_text, root_text, segments_text}
+use Rattle.bridge_tool.specs.Lines.{Reported, item_segments, lines, method_segments, report_text, segments_text}
+use Rattle.bridge_tool.specs.inside.TextParts.{segment_after, root_text}
 use Rattle.bridge_tool.specs.Checks.{Tested}
 use Rattle.bridge_outside.specs.Printing.{separator_at}
 
 -- no name, no segment
-pub item_left_out : (before : ℕ) (item : List ℕ) (empty : Bool) → empty ≡ (length item == 0) → empty ≡ true → after before (item_segments item) ≡ []
+pub item_left_out : (before : ℕ) (item : List ℕ) (empty : Bool) → empty ≡ (length item == 0) → empty ≡ true → segment_after before (item_segments item) ≡ []
 item_left_out before [] empty is holds = refl
 item_left_out before (c ∷ cs) empty is holds = absurd (let e : suc (length cs) ≡ 0 = eqb-true (suc (length cs)) 0 (sym is ∙ holds) in omega arith)
 
 -- a name is a segment
-pub item_there : (before : ℕ) (item : List ℕ) (empty : Bool) → empty ≡ (length item == 0) → empty ≡ false → after before (item_segments item) ≡ separator_at (codes "::") before ++ item
+pub item_there : (before : ℕ) (item : List ℕ) (empty : Bool) → empty ≡ (length item == 0) → empty ≡ false → segment_after before (item_segments item) ≡ separator_at (codes "::") before ++ item
 item_there before [] empty is fails = absurd (let e : true ≡ false = sym is ∙ fails in cc)
 item_there before (c ∷ cs) empty is fails = refl
 
@@ -32,18 +33,18 @@ joined_one (y ∷ ys) x =
 
 -- an item after a module's segments
 pub joined_item : (xs : List (List ℕ)) (item : List ℕ)
-    → join_by (λ s. s) (codes "::") xs ++ after (length xs) (item_segments item) ≡ join_by (λ s. s) (codes "::") (xs ++ item_segments item)
+    → join_by (λ s. s) (codes "::") xs ++ segment_after (length xs) (item_segments item) ≡ join_by (λ s. s) (codes "::") (xs ++ item_segments item)
 joined_item xs [] = append-nil _ ∙ sym (joined_more xs [] refl)
 joined_item xs (c ∷ cs) = sym (joined_one xs (c ∷ cs))
 
 -- a method after these
 pub joined_method : (xs : List (List ℕ)) (method : Option (List ℕ))
-    → join_by (λ s. s) (codes "::") xs ++ after (length xs) (method_segments method) ≡ join_by (λ s. s) (codes "::") (xs ++ method_segments method)
+    → join_by (λ s. s) (codes "::") xs ++ segment_after (length xs) (method_segments method) ≡ join_by (λ s. s) (codes "::") (xs ++ method_segments method)
 joined_method xs None = append-nil _ ∙ sym (joined_more xs [] refl)
 joined_method xs (Some method) = sym (joined_one xs method)
 
 -- any segments before count as one
-pub after_more : (n : ℕ) (segments : List (List ℕ)) → after (suc n) segments ≡ after 1 segments
+pub after_more : (n : ℕ) (segments : List (List ℕ)) → segment_after (suc n) segments ≡ segment_after 1 segments
 after_more n [] = refl
 after_more n (segment ∷ segments) = refl
 
@@ -67,32 +68,32 @@ pub joined_same : (separator : List ℕ) (texts : List (List ℕ)) → join_by (
 joined_same separator [] = refl
 joined_same separator (text ∷ texts) = sym (joined_rest separator text texts)
 
-count_more : (xs : List (List ℕ)) (x : List ℕ) (segments : List (List ℕ)) → after (length (xs ++ x ∷ [])) segments ≡ after 1 segments
+count_more : (xs : List (List ℕ)) (x : List ℕ) (segments : List (List ℕ)) → segment_after (length (xs ++ x ∷ [])) segments ≡ segment_after 1 segments
 count_more [] x segments = refl
 count_more (y ∷ ys) x segments = after_more (length (ys ++ x ∷ [])) segments
 
 -- a place, part by part
 pub place_parts : (path : List (List ℕ)) (item : List ℕ) (method : Option (List ℕ)) (before : ℕ) (is_root : Bool)
-    → (after before (method_segments method) ≡ after (length (path ++ item_segments item)) (method_segments method))
+    → (segment_after before (method_segments method) ≡ segment_after (length (path ++ item_segments item)) (method_segments method))
     → (is_root ≡ true → length ((path ++ item_segments item) ++ method_segments method) ≡ 0)
     → (is_root ≡ false → 1 ≤ length ((path ++ item_segments item) ++ method_segments method))
-    → ((join_by (λ s. s) (codes "::") path ++ after (length path) (item_segments item)) ++ after before (method_segments method)) ++ root_text is_root
+    → ((join_by (λ s. s) (codes "::") path ++ segment_after (length path) (item_segments item)) ++ segment_after before (method_segments method)) ++ root_text is_root
     ≡ segments_text ((path ++ item_segments item) ++ method_segments method)
 place_parts path item method before is_root same none some =
-    ap (λ t. (t ++ after before (method_segments method)) ++ root_text is_root) (joined_item path item)
+    ap (λ t. (t ++ segment_after before (method_segments method)) ++ root_text is_root) (joined_item path item)
     ∙ ap (λ t. (join_by (λ s. s) (codes "::") (path ++ item_segments item) ++ t) ++ root_text is_root) same
     ∙ ap (λ t. t ++ root_text is_root) (joined_method (path ++ item_segments item) method)
     ∙ segments_or_root ((path ++ item_segments item) ++ method_segments method) is_root none some
 
 -- an empty item leaves the count as it is
 pub before_nameless : (path : List (List ℕ)) (item : List ℕ) (empty : Bool) (segments : List (List ℕ)) → empty ≡ (length item == 0) → empty ≡ true
-    → after (length path) segments ≡ after (length (path ++ item_segments item)) segments
-before_nameless path [] empty segments is holds = ap (λ n. after n segments) (ap length (sym (append-nil path)))
+    → segment_after (length path) segments ≡ segment_after (length (path ++ item_segments item)) segments
+before_nameless path [] empty segments is holds = ap (λ n. segment_after n segments) (ap length (sym (append-nil path)))
 before_nameless path (c ∷ cs) empty segments is holds = absurd (let e : suc (length cs) ≡ 0 = eqb-true (suc (length cs)) 0 (sym is ∙ holds) in omega arith)
 
 -- any other item makes it more than none
 pub before_named : (path : List (List ℕ)) (item : List ℕ) (empty : Bool) (segments : List (List ℕ)) → empty ≡ (length item == 0) → empty ≡ false
-    → after 1 segments ≡ after (length (path ++ item_segments item)) segments
+    → segment_after 1 segments ≡ segment_after (length (path ++ item_segments item)) segments
 before_named path [] empty segments is fails = absurd (let e : true ≡ false = sym is ∙ fails in cc)
 before_named path (c ∷ cs) empty segments is fails = sym (count_more path (c ∷ cs) segments)
 

@@ -2,19 +2,19 @@
 use Rattle.std.proofs.Common.{◌≡◌, ℕ, ◌+◌, ◌<◌, ◌≤◌, List, [], ◌∷◌, ◌++◌, length, map, take, get_or, refl, sym, ap, subst, ◌∙◌, append_assoc, arith, inl, inr}
 use Rattle.std.specs.Prelude.{Any, Contains}
 use Rattle.std.proofs.lemmas.List.{append-nil, take_more, take_all, map-append, length-map, get_or-map}
+use Rattle.std.proofs.lemmas.Simd.{map-map}
 use Rattle.bridge_decl.specs.declared.lifetimes.LifetimeEnv.{LifetimeEnv}
 use Rattle.bridge_decl.specs.Lifetimes.{declared_longer}
 use Rattle.hir_life.specs.Environment.{longer_of}
 use Rattle.hir_life.specs.Outlives.{Linked, Outlives}
 use Rattle.bridge_tool.specs.declared.borrow.Leaf.{Leaf as Kept}
-use Rattle.bridge_tool.specs.declared.report.LeafPath.{LeafPath}
-use Rattle.bridge_tool.specs.declared.report.ReportEdge.{ReportEdge}
-use Rattle.bridge_tool.specs.declared.report.ReportEdgeKind.TheVariants.{Opaque}
+use Rattle.bridge_tool.specs.declared.borrowing.LeafPath.{LeafPath}
+use Rattle.bridge_tool.specs.declared.borrowing.ReportEdge.{ReportEdge}
+use Rattle.bridge_tool.specs.declared.borrowing.ReportEdgeKind.TheVariants.{Opaque}
 use Rattle.bridge_tool.specs.Borrows.{Leaf, Carries}
-use Rattle.bridge_tool.specs.Leaves.{leaf_of, paths_of, edges_of, IsInRange, AreInRange, Lists}
-use Rattle.bridge_tool.specs.Signature.{environment}
+use Rattle.bridge_tool.specs.inside.Listing.{leaf_of, paths_of, edges_of, IsInRange, AreInRange, Lists}
+use Rattle.hir_life.specs.Declarations.{bounded, declared_environment}
 use Rattle.bridge_tool.proofs.ChosenLemmas.{chosen-append}
-use Rattle.bridge_tool.proofs.SignatureLemmas.{longer_same}
 
 linked_like : (f g : ℕ → List ℕ) → ((s : ℕ) → f s ≡ g s) → (l : ℕ) (chain : List ℕ) (s : ℕ) → Linked f l chain s → Linked g l chain s
 linked_like f g same l [] s h = h
@@ -23,12 +23,15 @@ linked_like f g same l (m ∷ rest) s h = (subst (λ ls. Contains ls l) (same m)
 outlives_like : (f g : ℕ → List ℕ) → ((s : ℕ) → f s ≡ g s) → (l s : ℕ) → Outlives f l s → Outlives g l s
 outlives_like f g same l s h = record { chain = h.chain; linked = linked_like f g same l h.chain s h.linked }
 
--- to carry a lifetime by the bounds of the walks is to carry it by the declared ones
-pub carries_declared : (env : LifetimeEnv) (t : ℕ) (leaf : Leaf) → Any (λ c. Outlives (longer_of (environment env)) c t) leaf.carried → Carries env t leaf
-carries_declared env t leaf h = (h.0, h.1, h.2, h.3, outlives_like (longer_of (environment env)) (declared_longer env) (longer_same env) h.1 t h.4)
+longer_same : (env : LifetimeEnv) (s : ℕ) → longer_of (declared_environment env) s ≡ declared_longer env s
+longer_same env s = ap (λ l. get_or l s []) (map-map (λ b. b.longer) bounded env.nodes)
 
-pub declared_carries : (env : LifetimeEnv) (t : ℕ) (leaf : Leaf) → Carries env t leaf → Any (λ c. Outlives (longer_of (environment env)) c t) leaf.carried
-declared_carries env t leaf h = (h.0, h.1, h.2, h.3, outlives_like (declared_longer env) (longer_of (environment env)) (λ s. sym (longer_same env s)) h.1 t h.4)
+-- to carry a lifetime by the bounds of the environment is to carry it by the declared ones
+pub carries_declared : (env : LifetimeEnv) (t : ℕ) (leaf : Leaf) → Any (λ c. Outlives (longer_of (declared_environment env)) c t) leaf.carried → Carries env t leaf
+carries_declared env t leaf h = (h.0, h.1, h.2, h.3, outlives_like (longer_of (declared_environment env)) (declared_longer env) (longer_same env) h.1 t h.4)
+
+pub declared_carries : (env : LifetimeEnv) (t : ℕ) (leaf : Leaf) → Carries env t leaf → Any (λ c. Outlives (longer_of (declared_environment env)) c t) leaf.carried
+declared_carries env t leaf h = (h.0, h.1, h.2, h.3, outlives_like (declared_longer env) (longer_of (declared_environment env)) (λ s. sym (longer_same env s)) h.1 t h.4)
 
 -- a leaf that carries the lifetime is listed
 pub lists_kept : (env : LifetimeEnv) (t : ℕ) (leaf : Leaf) (p p' : List LeafPath) (e e' : List ReportEdge) → Carries env t leaf

@@ -11,7 +11,7 @@ use Rattle.bridge_tool.specs.Breaks.{Breaks, BreakNothing}
 use Rattle.bridge_tool.specs.Checks.{Check, name, path, lifetime, Tested, Fails, tested_in}
 use Rattle.bridge_tool.specs.Chosen.{Chosen}
 use Rattle.bridge_tool.specs.Lines.{Reported, AreRefusedBy, arg_of, reported, rule_of}
-use Rattle.bridge_tool.specs.Reports.{TestFails}
+use Rattle.bridge_tool.specs.Checks.{TestFails}
 use Rattle.bridge_tool.proofs.JudgeLemmas.{contains_first, contains_later, contains_map, keeps_rules, test_breaks}
 
 -- no fault, no broken rule

@@ -17,8 +17,8 @@ use Rattle.bridge_decl.specs.Lifetimes.{lifetime_names}
 use Rattle.bridge_decl.specs.Names.{item_name}
 use Rattle.bridge_tool.specs.Checks.{Check, name, path, lifetime, lifetime_name, Tested, method_names, method_paths, method_lifetimes, receiver_paths, returned_paths, receiver_lifetimes, returned_lifetimes, type_paths, type_lifetimes, tested_in_method, tested_in_item, tested_in_module, tested_at_number, tested_in, method_checks}
 use Rattle.bridge_tool.specs.Chosen.{Chosen}
-use Rattle.bridge_tool.specs.Walking.{walk_order}
-use Rattle.bridge_tool.specs.Reports.{Appends}
+use Rattle.bridge_tool.specs.Order.{module_order}
+use Rattle.bridge_tool.specs.inside.Reporting.{Appends}
 use Rattle.bridge_tool.specs.Methods.{methods_of}
 use Rattle.bridge_tool.proofs.ChosenLemmas.{appends_then}
 
@@ -139,7 +139,7 @@ module_tested P number m above items a b same all h =
     (subst (λ (p : List (List ℕ)). Appends P (flat_map (tested_in_item number p) items) a b) same h)
 
 -- all modules were tested, from nothing
-pub all_numbers_tested : (P : Tested → Type 0) (modules : List Module) (order : List ℕ) (i : ℕ) (reports : List Tested) → order ≡ walk_order modules → length order ≤ i
+pub all_numbers_tested : (P : Tested → Type 0) (modules : List Module) (order : List ℕ) (i : ℕ) (reports : List Tested) → order ≡ module_order modules → length order ≤ i
     → Appends P (flat_map (tested_at_number modules) (take i order)) [] reports → Chosen P (tested_in modules) reports
 all_numbers_tested P modules order i reports is le h =
     let whole : Appends P (tested_in modules) [] reports =

@@ -1,5 +1,5 @@
 -- What a run did, and what that says of its status.
-use Rattle.std.proofs.Common.{◌≡◌, ◌≢◌, ℕ, ◌<◌, ◌≤◌, ◌^◌, Bool, List, [], ◌∷◌, length, map, get_or, Option, Result, Ok, Err, refl, sym, ap, ◌∙◌, arith, inl, inr}
+use Rattle.std.proofs.Common.{◌≡◌, ◌≢◌, ℕ, ◌<◌, ◌≤◌, ◌^◌, Bool, List, [], ◌∷◌, length, map, get_or, Result, Ok, Err, refl, sym, ap, ◌∙◌, arith, inl, inr}
 use Rattle.std.specs.Prelude.{◌↔◌, ◌⊎◌, IfSome, IsTrue, String, codes, string_bytes}
 use Rattle.std.specs.Str.{bytes_eq}
 use Rattle.std.proofs.lemmas.Slice.Eq.{bytes_eq-Decides}
@@ -7,221 +7,200 @@ use Rattle.std.specs.declared.alloc.Global.{Global}
 use Rattle.bridge_decl.specs.declared.modules.Module.{Module}
 use Rattle.bridge_outside.specs.declared.sink.SinkFault.{SinkFault}
 use Rattle.bridge_outside.specs.declared.sink.SinkFault.TheVariants.{Failed, NoMemory}
+use Rattle.bridge_outside.specs.Outside.{SinkState, SourceState, taken_with}
+use Rattle.bridge_outside.specs.Printing.{Delivers}
 use Rattle.bridge_tool.specs.declared.status.Status.{Status}
 use Rattle.bridge_tool.specs.declared.status.Status.TheVariants as status
-use Rattle.bridge_tool.specs.Breaks.{BreakNothing}
-use Rattle.bridge_tool.specs.Lines.{Reported, AreRefusedBy, lines}
-use Rattle.bridge_outside.specs.Outside.{Rose, taken_with}
-use Rattle.bridge_tool.specs.Page.{IsPage}
-use Rattle.bridge_outside.specs.Printing.{Delivers}
-use Rattle.bridge_tool.specs.Declining.{IsDeclinedBy}
-use Rattle.bridge_tool.specs.Running.{World, Accepts, Refuses, Spells, Told, AreCommand, Answered, Declines, IsAnswerTo, IsCutOff, IsTextOf, IsUnfinished, Ran, WereRead, ended_with}
+use Rattle.bridge_tool.specs.Following.{Follows}
+use Rattle.bridge_tool.specs.Running.{World, AreCommand, Answers, FirstPart, IsCutShort, Ran, Says, Spells, WereRead}
 use Rattle.bridge_tool.specs.Statuses.{code_of}
+use Rattle.bridge_tool.specs.inside.Answering.{IsWhole, Printed, TellsOf, ended_with}
 
 -- what was delivered up to a fault is a first part of the text
-cut_off : {K T : Type 0} (taken : K → Option (List ℕ)) (faults : K → ℕ) (sink sink' : K) (P : List ℕ → Type 0) (text : List ℕ) (printed : Result T SinkFault)
-    → Delivers taken faults sink sink' text printed → P text → IsCutOff P (taken sink) (taken sink')
-cut_off taken faults sink sink' P text printed d of = inr (record { text = text; of = of; sent = d.sent; rest = d.rest; parts = d.parts; took = d.took })
+first_part : (P : Status → List ℕ → Type 0) {old new : SinkState} (verdict : Status) (text : List ℕ) (printed : Result (Unit {0}) SinkFault)
+    → Delivers old new text printed → P verdict text → FirstPart P old new
+first_part P verdict text printed d of = record { status = verdict; text = text; of = of; sent = d.sent; rest = d.rest; parts = d.parts; took = d.took }
 
--- a page was printed
-pub told_page : {K : Type 0} (taken : K → Option (List ℕ)) (faults : K → ℕ) (sink sink' : K) (modules : List Module) (page : List ℕ) (printed : Result (Unit {0}) SinkFault)
-    → Delivers taken faults sink sink' page printed → BreakNothing modules → IsPage modules page → Told modules (taken sink) (taken sink') (faults sink) (faults sink') (ended_with status.Accepted printed)
-told_page taken faults sink sink' modules page (Ok done) d keep is_page = (page, keep, is_page, d.took ∙ ap (taken_with (taken sink)) d.whole, d.steady)
-told_page taken faults sink sink' modules page (Err Failed) d keep is_page = (d.failed refl, cut_off taken faults sink sink' (IsTextOf modules) page (Err Failed) d (inl (keep, is_page)))
-told_page taken faults sink sink' modules page (Err NoMemory) d keep is_page = cut_off taken faults sink sink' (IsTextOf modules) page (Err NoMemory) d (inl (keep, is_page))
+-- a text that answers with a verdict was printed
+pub printed_text : (P : Status → List ℕ → Type 0) {old new : SinkState} (verdict : Status) (text : List ℕ) (printed : Result (Unit {0}) SinkFault)
+    → (IsWhole P old new verdict → Printed P old new verdict) → Delivers old new text printed → P verdict text → Printed P old new (ended_with verdict printed)
+printed_text P {old = old} verdict text (Ok done) whole d of = whole (text, of, record { taken = d.took ∙ ap (taken_with old.taken) d.whole; no_fault = d.steady })
+printed_text P verdict text (Err Failed) whole d of = (d.failed refl, first_part P verdict text (Err Failed) d of)
+printed_text P verdict text (Err NoMemory) whole d of = inr (first_part P verdict text (Err NoMemory) d of)
 
--- reports were printed
-pub told_reports : {K : Type 0} (taken : K → Option (List ℕ)) (faults : K → ℕ) (sink sink' : K) (modules : List Module) (reports : List Reported) (printed : Result (Unit {0}) SinkFault)
-    → Delivers taken faults sink sink' (lines reports) printed → AreRefusedBy modules reports → Told modules (taken sink) (taken sink') (faults sink) (faults sink') (ended_with status.Refused printed)
-told_reports taken faults sink sink' modules reports (Ok done) d refused = (reports, refused, d.took ∙ ap (taken_with (taken sink)) d.whole, d.steady)
-told_reports taken faults sink sink' modules reports (Err Failed) d refused =
-    (d.failed refl, cut_off taken faults sink sink' (IsTextOf modules) (lines reports) (Err Failed) d (inr (reports, refused, refl)))
-told_reports taken faults sink sink' modules reports (Err NoMemory) d refused =
-    cut_off taken faults sink sink' (IsTextOf modules) (lines reports) (Err NoMemory) d (inr (reports, refused, refl))
+-- what tells of the declarations that bytes spell answers the bytes
+tells_answers : (bytes : List ℕ) (modules : List Module) → Spells bytes modules → (end : Status) (text : List ℕ) → TellsOf modules end text → Answers bytes end text
+tells_answers bytes modules spells status.Accepted text t = (modules, spells, t.0, t.1)
+tells_answers bytes modules spells status.Refused text t = (modules, t.0, spells, t.1, t.2)
+tells_answers bytes modules spells status.NotDeclarations text t = absurd t
+tells_answers bytes modules spells status.ReadFailed text t = absurd t
+tells_answers bytes modules spells status.WriteFailed text t = absurd t
+tells_answers bytes modules spells status.NoMemory text t = absurd t
+tells_answers bytes modules spells status.BadWords text t = absurd t
+tells_answers bytes modules spells status.TooLong text t = absurd t
 
--- a first part of what answers the declarations that bytes spell is one of what answers the bytes
-told_part : (bytes : List ℕ) (modules : List Module) (taken taken' : Option (List ℕ)) → Spells bytes modules
-    → IsCutOff (IsTextOf modules) taken taken' → IsCutOff (IsAnswerTo bytes) taken taken'
-told_part bytes modules taken taken' spells (inl same) = inl same
-told_part bytes modules taken taken' spells (inr part) =
-    inr (record { text = part.text; of = inl (modules, spells, part.of); sent = part.sent; rest = part.rest; parts = part.parts; took = part.took })
+part_answers : (bytes : List ℕ) (modules : List Module) (old new : SinkState) → Spells bytes modules → FirstPart (TellsOf modules) old new → FirstPart (Answers bytes) old new
+part_answers bytes modules old new spells part = record {
+  status = part.status;
+  text = part.text;
+  of = tells_answers bytes modules spells part.status part.text part.of;
+  sent = part.sent;
+  rest = part.rest;
+  parts = part.parts;
+  took = part.took;
+}
 
--- what was told of the declarations that bytes spell answers the bytes
-pub answered_told : (bytes : List ℕ) (modules : List Module) (taken taken' : Option (List ℕ)) (faults faults' : ℕ) (end : Status) → Spells bytes modules
-    → Told modules taken taken' faults faults' end → Answered bytes taken taken' faults faults' end
-answered_told bytes modules taken taken' faults faults' status.Accepted spells t = (modules, t.0, record { spells = spells; keeps = t.1 }, t.2, t.3, t.4)
-answered_told bytes modules taken taken' faults faults' status.Refused spells t = (modules, t.0, spells, t.1, t.2, t.3)
-answered_told bytes modules taken taken' faults faults' status.NotDeclarations spells t = absurd t
-answered_told bytes modules taken taken' faults faults' status.ReadFailed spells t = absurd t
-answered_told bytes modules taken taken' faults faults' status.WriteFailed spells t = (t.0, told_part bytes modules taken taken' spells t.1)
-answered_told bytes modules taken taken' faults faults' status.NoMemory spells t = told_part bytes modules taken taken' spells t
-answered_told bytes modules taken taken' faults faults' status.BadWords spells t = absurd t
-answered_told bytes modules taken taken' faults faults' status.TooLong spells t = absurd t
-
--- a line was printed
-pub answered_line : {K : Type 0} (taken : K → Option (List ℕ)) (faults : K → ℕ) (sink sink' : K) (bytes line : List ℕ) (printed : Result (Unit {0}) SinkFault)
-    → Delivers taken faults sink sink' line printed → IsDeclinedBy bytes line → Answered bytes (taken sink) (taken sink') (faults sink) (faults sink') (ended_with status.NotDeclarations printed)
-answered_line taken faults sink sink' bytes line (Ok done) d declined = (line, declined, d.took ∙ ap (taken_with (taken sink)) d.whole, d.steady)
-answered_line taken faults sink sink' bytes line (Err Failed) d declined = (d.failed refl, cut_off taken faults sink sink' (IsAnswerTo bytes) line (Err Failed) d (inr declined))
-answered_line taken faults sink sink' bytes line (Err NoMemory) d declined = cut_off taken faults sink sink' (IsAnswerTo bytes) line (Err NoMemory) d (inr declined)
-
--- nothing of what answers the bytes that were read was taken, or a first part
-unfinished : (old new : World) (bytes : List ℕ) → WereRead old new bytes → IsCutOff (IsAnswerTo bytes) old.taken new.taken → IsUnfinished old new
-unfinished old new bytes read (inl same) = inl same
-unfinished old new bytes read (inr part) = inr (bytes, read, part)
+pub printed_answers : (bytes : List ℕ) (modules : List Module) (old new : SinkState) (end : Status) → Spells bytes modules
+    → Printed (TellsOf modules) old new end → Printed (Answers bytes) old new end
+printed_answers bytes modules old new status.Accepted spells p = (p.0, tells_answers bytes modules spells status.Accepted p.0 p.1, p.2)
+printed_answers bytes modules old new status.Refused spells p = (p.0, tells_answers bytes modules spells status.Refused p.0 p.1, p.2)
+printed_answers bytes modules old new status.NotDeclarations spells p = absurd p.1
+printed_answers bytes modules old new status.ReadFailed spells p = absurd p
+printed_answers bytes modules old new status.WriteFailed spells p = (p.0, part_answers bytes modules old new spells p.1)
+printed_answers bytes modules old new status.NoMemory spells (inl same) = inl same
+printed_answers bytes modules old new status.NoMemory spells (inr part) = inr (part_answers bytes modules old new spells part)
+printed_answers bytes modules old new status.BadWords spells p = absurd p
+printed_answers bytes modules old new status.TooLong spells p = absurd p
 
 -- what was read was answered
-pub ran_answered : (words : List (String Global)) (old new : World) (bytes : List ℕ) → AreCommand words → WereRead old new bytes
-    → (end : Status) → Answered bytes old.taken new.taken old.write_faults new.write_faults end → Ran words old new end
-ran_answered words old new bytes command read status.Accepted a =
-    (command, record { bytes = bytes; modules = a.0; page = a.1; read = read; accepted = a.2; is_page = a.3; taken = record { taken = a.4; no_fault = a.5 } })
-ran_answered words old new bytes command read status.Refused a =
-    (command, record { bytes = bytes; modules = a.0; reports = a.1; read = read; spells = a.2; refused = a.3; taken = record { taken = a.4; no_fault = a.5 } })
-ran_answered words old new bytes command read status.NotDeclarations a =
-    (command, record { bytes = bytes; line = a.0; read = read; declined = a.1; taken = record { taken = a.2; no_fault = a.3 } })
-ran_answered words old new bytes command read status.ReadFailed a = absurd a
-ran_answered words old new bytes command read status.WriteFailed a = (command, record { bytes = bytes; read = read; failed = a.0; cut_off = a.1 })
-ran_answered words old new bytes command read status.NoMemory a = (command, unfinished old new bytes read a)
-ran_answered words old new bytes command read status.BadWords a = absurd a
-ran_answered words old new bytes command read status.TooLong a = absurd a
+pub says_answered : (words : List (String Global)) (old new : World) (bytes : List ℕ) → AreCommand words → WereRead old.source new.source bytes
+    → (end : Status) → Printed (Answers bytes) old.sink new.sink end → Says words old new end
+says_answered words old new bytes command read status.Accepted p = (command, (bytes, read, p))
+says_answered words old new bytes command read status.Refused p = (command, (bytes, read, p))
+says_answered words old new bytes command read status.NotDeclarations p = (command, (bytes, read, p))
+says_answered words old new bytes command read status.ReadFailed p = absurd p
+says_answered words old new bytes command read status.WriteFailed p = (command, p.0, (bytes, read, p.1))
+says_answered words old new bytes command read status.NoMemory (inl same) = (command, inl same)
+says_answered words old new bytes command read status.NoMemory (inr part) = (command, inr (bytes, read, part))
+says_answered words old new bytes command read status.BadWords p = absurd p
+says_answered words old new bytes command read status.TooLong p = absurd p
 
 neither_of : {P Q : Type 0} → P ⊎ Q → ¬ P → ¬ Q → ⊥
 neither_of (inl p) no_p no_q = no_p p
 neither_of (inr q) no_p no_q = no_q q
 
-written : {P Q R : Type 0} → P ⊎ Q ⊎ R → ¬ P → ¬ Q → ¬ R → ⊥
-written (inl p) no_p no_q no_r = no_p p
-written (inr (inl q)) no_p no_q no_r = no_q q
-written (inr (inr r)) no_p no_q no_r = no_r r
+none_of : {P Q R : Type 0} → P ⊎ Q ⊎ R → ¬ P → ¬ Q → ¬ R → ⊥
+none_of (inl p) no_p no_q no_r = no_p p
+none_of (inr (inl q)) no_p no_q no_r = no_q q
+none_of (inr (inr r)) no_p no_q no_r = no_r r
 
--- what each status says
-pub record Says (words : List (String Global)) (old new : World) (code : ℕ) : Type 0 where
-  pub accepted : code ≡ 0 → Accepts old new
-  pub refused : code ≡ 1 → Refuses old new
-  pub declined : code ≡ 2 → Declines old new
-  pub read_failed : code ≡ 3 → Rose old.read_faults new.read_faults
-  pub write_failed : code ≡ 4 → Rose old.write_faults new.write_faults
-  pub bad_words : (code ≡ 6) ↔ (¬ (AreCommand words))
-  pub too_long : code ≡ 7 → IfSome old.left (λ had. 2 ^ 26 < length had)
-  pub reads_steady : code ≢ 3 → code ≢ 5 → new.read_faults ≡ old.read_faults
-  pub writes_steady : code ≢ 4 → code ≢ 5 → new.write_faults ≡ old.write_faults
-  pub unwritten : (code ≡ 3) ⊎ (code ≡ 6) ⊎ (code ≡ 7) → new.taken ≡ old.taken
-  pub cut_off : (code ≡ 4) ⊎ (code ≡ 5) → IsUnfinished old new
-  pub at_most_seven : code ≤ 7
-
-pub says : (words : List (String Global)) (old new : World) (end : Status) → Ran words old new end → Says words old new (code_of end)
-says words old new status.Accepted r = record {
+-- what follows from the row of each status
+follows_end : (words : List (String Global)) (old new : World) (end : Status) → Says words old new end → Follows words old new (code_of end)
+follows_end words old new status.Accepted r = record {
   accepted = λ e. r.1;
   refused = λ e. absurd (omega arith);
   declined = λ e. absurd (omega arith);
   read_failed = λ e. absurd (omega arith);
   write_failed = λ e. absurd (omega arith);
-  bad_words = (λ e. absurd (omega arith), λ no. absurd (no r.0));
+  cut_short = λ e. absurd (neither_of e (omega arith) (omega arith));
+  bad_words = (λ e. absurd (omega arith), λ none. absurd (none r.0));
   too_long = λ e. absurd (omega arith);
-  reads_steady = λ a b. r.1.read.no_fault;
-  writes_steady = λ a b. r.1.taken.no_fault;
-  unwritten = λ e. absurd (written e (omega arith) (omega arith) (omega arith));
-  cut_off = λ e. absurd (neither_of e (omega arith) (omega arith));
+  reads_steady = λ a b. r.1.1.no_fault;
+  writes_steady = λ a b. r.1.2.2.no_fault;
+  unwritten = λ e. absurd (none_of e (omega arith) (omega arith) (omega arith));
   at_most_seven = omega arith;
 }
-says words old new status.Refused r = record {
+follows_end words old new status.Refused r = record {
   accepted = λ e. absurd (omega arith);
   refused = λ e. r.1;
   declined = λ e. absurd (omega arith);
   read_failed = λ e. absurd (omega arith);
   write_failed = λ e. absurd (omega arith);
-  bad_words = (λ e. absurd (omega arith), λ no. absurd (no r.0));
+  cut_short = λ e. absurd (neither_of e (omega arith) (omega arith));
+  bad_words = (λ e. absurd (omega arith), λ none. absurd (none r.0));
   too_long = λ e. absurd (omega arith);
-  reads_steady = λ a b. r.1.read.no_fault;
-  writes_steady = λ a b. r.1.taken.no_fault;
-  unwritten = λ e. absurd (written e (omega arith) (omega arith) (omega arith));
-  cut_off = λ e. absurd (neither_of e (omega arith) (omega arith));
+  reads_steady = λ a b. r.1.1.no_fault;
+  writes_steady = λ a b. r.1.2.2.no_fault;
+  unwritten = λ e. absurd (none_of e (omega arith) (omega arith) (omega arith));
   at_most_seven = omega arith;
 }
-says words old new status.NotDeclarations r = record {
+follows_end words old new status.NotDeclarations r = record {
   accepted = λ e. absurd (omega arith);
   refused = λ e. absurd (omega arith);
   declined = λ e. r.1;
   read_failed = λ e. absurd (omega arith);
   write_failed = λ e. absurd (omega arith);
-  bad_words = (λ e. absurd (omega arith), λ no. absurd (no r.0));
+  cut_short = λ e. absurd (neither_of e (omega arith) (omega arith));
+  bad_words = (λ e. absurd (omega arith), λ none. absurd (none r.0));
   too_long = λ e. absurd (omega arith);
-  reads_steady = λ a b. r.1.read.no_fault;
-  writes_steady = λ a b. r.1.taken.no_fault;
-  unwritten = λ e. absurd (written e (omega arith) (omega arith) (omega arith));
-  cut_off = λ e. absurd (neither_of e (omega arith) (omega arith));
+  reads_steady = λ a b. r.1.1.no_fault;
+  writes_steady = λ a b. r.1.2.2.no_fault;
+  unwritten = λ e. absurd (none_of e (omega arith) (omega arith) (omega arith));
   at_most_seven = omega arith;
 }
-says words old new status.ReadFailed r = record {
+follows_end words old new status.ReadFailed r = record {
   accepted = λ e. absurd (omega arith);
   refused = λ e. absurd (omega arith);
   declined = λ e. absurd (omega arith);
   read_failed = λ e. r.1;
   write_failed = λ e. absurd (omega arith);
-  bad_words = (λ e. absurd (omega arith), λ no. absurd (no r.0));
+  cut_short = λ e. absurd (neither_of e (omega arith) (omega arith));
+  bad_words = (λ e. absurd (omega arith), λ none. absurd (none r.0));
   too_long = λ e. absurd (omega arith);
   reads_steady = λ a b. absurd (a refl);
   writes_steady = λ a b. r.2.no_fault;
   unwritten = λ e. r.2.taken;
-  cut_off = λ e. absurd (neither_of e (omega arith) (omega arith));
   at_most_seven = omega arith;
 }
-says words old new status.WriteFailed r = record {
+follows_end words old new status.WriteFailed r = record {
   accepted = λ e. absurd (omega arith);
   refused = λ e. absurd (omega arith);
   declined = λ e. absurd (omega arith);
   read_failed = λ e. absurd (omega arith);
-  write_failed = λ e. r.1.failed;
-  bad_words = (λ e. absurd (omega arith), λ no. absurd (no r.0));
+  write_failed = λ e. r.1;
+  cut_short = λ e. inr r.2;
+  bad_words = (λ e. absurd (omega arith), λ none. absurd (none r.0));
   too_long = λ e. absurd (omega arith);
-  reads_steady = λ a b. r.1.read.no_fault;
+  reads_steady = λ a b. r.2.1.no_fault;
   writes_steady = λ a b. absurd (a refl);
-  unwritten = λ e. absurd (written e (omega arith) (omega arith) (omega arith));
-  cut_off = λ e. unfinished old new r.1.bytes r.1.read r.1.cut_off;
+  unwritten = λ e. absurd (none_of e (omega arith) (omega arith) (omega arith));
   at_most_seven = omega arith;
 }
-says words old new status.NoMemory r = record {
+follows_end words old new status.NoMemory r = record {
   accepted = λ e. absurd (omega arith);
   refused = λ e. absurd (omega arith);
   declined = λ e. absurd (omega arith);
   read_failed = λ e. absurd (omega arith);
   write_failed = λ e. absurd (omega arith);
-  bad_words = (λ e. absurd (omega arith), λ no. absurd (no r.0));
+  cut_short = λ e. r.1;
+  bad_words = (λ e. absurd (omega arith), λ none. absurd (none r.0));
   too_long = λ e. absurd (omega arith);
   reads_steady = λ a b. absurd (b refl);
   writes_steady = λ a b. absurd (b refl);
-  unwritten = λ e. absurd (written e (omega arith) (omega arith) (omega arith));
-  cut_off = λ e. r.1;
+  unwritten = λ e. absurd (none_of e (omega arith) (omega arith) (omega arith));
   at_most_seven = omega arith;
 }
-says words old new status.BadWords r = record {
+follows_end words old new status.BadWords r = record {
   accepted = λ e. absurd (omega arith);
   refused = λ e. absurd (omega arith);
   declined = λ e. absurd (omega arith);
   read_failed = λ e. absurd (omega arith);
   write_failed = λ e. absurd (omega arith);
+  cut_short = λ e. absurd (neither_of e (omega arith) (omega arith));
   bad_words = (λ e. r.0, λ no. refl);
   too_long = λ e. absurd (omega arith);
-  reads_steady = λ a b. ap (λ (w : World). w.read_faults) r.1;
-  writes_steady = λ a b. ap (λ (w : World). w.write_faults) r.1;
-  unwritten = λ e. ap (λ (w : World). w.taken) r.1;
-  cut_off = λ e. absurd (neither_of e (omega arith) (omega arith));
+  reads_steady = λ a b. ap (λ (w : World). w.source.faults) r.1;
+  writes_steady = λ a b. ap (λ (w : World). w.sink.faults) r.1;
+  unwritten = λ e. ap (λ (w : World). w.sink.taken) r.1;
   at_most_seven = omega arith;
 }
-says words old new status.TooLong r = record {
+follows_end words old new status.TooLong r = record {
   accepted = λ e. absurd (omega arith);
   refused = λ e. absurd (omega arith);
   declined = λ e. absurd (omega arith);
   read_failed = λ e. absurd (omega arith);
   write_failed = λ e. absurd (omega arith);
-  bad_words = (λ e. absurd (omega arith), λ no. absurd (no r.0));
-  too_long = λ e. r.1;
-  reads_steady = λ a b. r.2;
-  writes_steady = λ a b. r.3.no_fault;
-  unwritten = λ e. r.3.taken;
-  cut_off = λ e. absurd (neither_of e (omega arith) (omega arith));
+  cut_short = λ e. absurd (neither_of e (omega arith) (omega arith));
+  bad_words = (λ e. absurd (omega arith), λ none. absurd (none r.0));
+  too_long = λ e. r.1.long;
+  reads_steady = λ a b. r.1.no_fault;
+  writes_steady = λ a b. r.2.no_fault;
+  unwritten = λ e. r.2.taken;
   at_most_seven = omega arith;
 }
+
+pub follows : (words : List (String Global)) (old new : World) (code : ℕ) → Ran words old new code → Follows words old new code
+follows words old new code ran = rw ran.1 (follows_end words old new ran.0 ran.2)
 
 -- only words that are no command end with 6
 pub bad_words_end : (end : Status) → code_of end ≡ 6 → end ≡ status.BadWords

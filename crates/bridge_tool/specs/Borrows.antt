@@ -17,18 +17,18 @@ use Rattle.bridge_decl.specs.declared.modules.Module.{Module}
 use Rattle.bridge_decl.specs.Lifetimes.{lifetime_names, declared_longer}
 use Rattle.bridge_decl.specs.Names.{item_name}
 use Rattle.hir_life.specs.Outlives.{Outlives}
-use Rattle.bridge_tool.specs.declared.report.InputPlace.{InputPlace}
-use Rattle.bridge_tool.specs.declared.report.InputPlace.TheVariants.{Receiver, Param as Parameter}
-use Rattle.bridge_tool.specs.declared.report.LeafPath.{LeafPath}
-use Rattle.bridge_tool.specs.declared.report.ReportEdge.{ReportEdge}
-use Rattle.bridge_tool.specs.declared.report.ReportEdgeKind.TheVariants.{Opaque}
-use Rattle.bridge_tool.specs.declared.report.ReturnedLifetime.{ReturnedLifetime}
-use Rattle.bridge_tool.specs.declared.report.CallableReport.{CallableReport}
+use Rattle.bridge_tool.specs.declared.borrowing.InputPlace.{InputPlace}
+use Rattle.bridge_tool.specs.declared.borrowing.InputPlace.TheVariants.{Receiver, Param as Parameter}
+use Rattle.bridge_tool.specs.declared.borrowing.LeafPath.{LeafPath}
+use Rattle.bridge_tool.specs.declared.borrowing.ReportEdge.{ReportEdge}
+use Rattle.bridge_tool.specs.declared.borrowing.ReportEdgeKind.TheVariants.{Opaque}
+use Rattle.bridge_tool.specs.declared.borrowing.ReturnedLifetime.{ReturnedLifetime}
+use Rattle.bridge_tool.specs.declared.borrowing.CallableReport.{CallableReport}
 use Rattle.bridge_tool.specs.Checks.{lifetime_name, receiver_lifetimes, returned_lifetimes, type_lifetimes}
 use Rattle.bridge_tool.specs.Methods.{methods_of}
-use Rattle.bridge_tool.specs.Walking.{of_found, walk_order}
+use Rattle.bridge_tool.specs.Order.{of_found, module_order}
 use Rattle.bridge_tool.specs.Chosen.{Chosen, EachPair}
-use Rattle.bridge_tool.specs.Index.{number_of}
+use Rattle.bridge_decl.specs.NameIndex.{number_of}
 
 -- the number of a lifetime in its environment; only lifetimes with a declared name have one so far
 abbrev pub numbers : LifetimeEnv → Lifetime → List ℕ
@@ -57,12 +57,12 @@ abbrev pub Carries : LifetimeEnv → ℕ → Leaf → Type 0
 Carries env t leaf = Any (λ carried. Outlives (declared_longer env) carried t) leaf.carried
 
 -- the lifetimes that the return names, ascending: so far it has at most one
-abbrev pub named : Method → List ℕ
-named method = flat_map (numbers method.lifetime_env) (returned_lifetimes method.return_type)
+abbrev pub returned_numbers : Method → List ℕ
+returned_numbers method = flat_map (numbers method.lifetime_env) (returned_lifetimes method.return_type)
 
 -- the list of t: the leaves that carry it or one that outlives it
-abbrev pub IsList : Method → ℕ → List LeafPath → Type 0
-IsList method t paths =
+abbrev pub IsLeafList : Method → ℕ → List LeafPath → Type 0
+IsLeafList method t paths =
     (chosen : List Leaf) × Chosen (Carries method.lifetime_env t) (leaves method) chosen
     × (paths ≡ map (λ leaf. record { input = leaf.input; fields = [] }) chosen)
 
@@ -75,7 +75,7 @@ AreEdges method t edges =
 -- what may be borrowed under t
 pub record IsReturned (method : Method) (t : ℕ) (returned : ReturnedLifetime) : Type 0 where
   pub lifetime : returned.lifetime ≡ t
-  pub list : IsList method t returned.leaves
+  pub list : IsLeafList method t returned.leaves
   pub edges : AreEdges method t returned.edges
 
 -- a method with the path of its module and the name of its item
@@ -98,12 +98,12 @@ callables_at modules number = of_found callables_in (slice_get modules number)
 
 -- those of all modules, in the order in which modules are gone through
 abbrev pub callables : List Module → List Callable
-callables modules = flat_map (callables_at modules) (walk_order modules)
+callables modules = flat_map (callables_at modules) (module_order modules)
 
 -- what may be borrowed under each lifetime that the callable's return names
-abbrev pub IsCallableReport : Callable → CallableReport → Type 0
-IsCallableReport callable report = EachPair (IsReturned callable.method) (named callable.method) report.returned
+abbrev pub IsCallableBorrowing : Callable → CallableReport → Type 0
+IsCallableBorrowing callable borrowing = EachPair (IsReturned callable.method) (returned_numbers callable.method) borrowing.returned
 
--- the reports of the callables, one each
-abbrev pub AreReports : List Module → List CallableReport → Type 0
-AreReports modules reports = EachPair IsCallableReport (callables modules) reports
+-- the borrowings of the callables, one each
+abbrev pub AreBorrowings : List Module → List CallableReport → Type 0
+AreBorrowings modules borrowings = EachPair IsCallableBorrowing (callables modules) borrowings

@@ -36,14 +36,14 @@ pub record IsBorrow (lifetime : Lifetime) (mutability : Mutability) : Type 0 whe
   pub immutable : mutability ≡ Immutable
 
 -- a type that a path without lifetimes names
-abbrev pub IsPlain : Layer → Type 0
-IsPlain (TypeName-F.Named p) = p.lifetimes ≡ []
-IsPlain _ = ⊥
+abbrev pub IsPlainPath : Layer → Type 0
+IsPlainPath (TypeName-F.Named p) = p.lifetimes ≡ []
+IsPlainPath _ = ⊥
 
 -- `&'a P`
 pub record IsReferenceTo (lifetime : Lifetime) (mutability : Mutability) (to : Layer) : Type 0 where
   pub borrow : IsBorrow lifetime mutability
-  pub plain : IsPlain to
+  pub plain : IsPlainPath to
 
 -- the type of a parameter
 abbrev pub IsPassed : Layer → Type 0
@@ -53,7 +53,7 @@ IsPassed _ = ⊥
 -- what a method returns: `&'a P` or `Box<P>`
 abbrev pub IsGiven : Layer → Type 0
 IsGiven (TypeName-F.Reference l m t) = IsReferenceTo l m (out-TypeName t)
-IsGiven (TypeName-F.Box t) = IsPlain (out-TypeName t)
+IsGiven (TypeName-F.Box t) = IsPlainPath (out-TypeName t)
 IsGiven _ = ⊥
 
 -- the return, where there is one

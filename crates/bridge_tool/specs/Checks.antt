@@ -18,7 +18,7 @@ use Rattle.bridge_decl.specs.Ident.{IsIdent}
 use Rattle.bridge_decl.specs.Names.{item_name, Place}
 use Rattle.bridge_ast.specs.Types.{NamesType}
 use Rattle.bridge_tool.specs.Methods.{methods_of}
-use Rattle.bridge_tool.specs.Walking.{of_found, walk_order}
+use Rattle.bridge_tool.specs.Order.{of_found, module_order}
 
 -- something that a rule tests
 pub data Check : Type 0 where
@@ -123,10 +123,14 @@ tested_at_number modules number = of_found (tested_in_module number) (slice_get 
 
 -- all that the rules test, in the order in which modules are gone through, and in each of the items
 abbrev pub tested_in : List Module → List Tested
-tested_in modules = flat_map (tested_at_number modules) (walk_order modules)
+tested_in modules = flat_map (tested_at_number modules) (module_order modules)
 
 -- the check fails in the module of a number: the name is no identifier, the path names no type there, or the lifetime isn't declared
 abbrev pub Fails : List Module → ℕ → Check → Type 0
 Fails modules number (name n) = ¬ (IsIdent n)
 Fails modules number (path p) = (item : Item) (named : ItemPlace) → ¬ NamesType modules number p.segments item named
 Fails modules number (lifetime env l) = ¬ (Contains (lifetime_names env) l)
+
+-- the test fails
+abbrev pub TestFails : List Module → Tested → Type 0
+TestFails modules tested = Fails modules tested.number tested.check

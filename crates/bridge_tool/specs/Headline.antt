@@ -1,35 +1,46 @@
--- The headline: what a run that nothing disturbs answers to declarations.
-use Rattle.std.specs.Prelude.{◌≡◌, ◌≢◌, ◌⊎◌, ◌↔◌, ℕ, List, [], Some, String}
+-- The headline: what a run that nothing disturbs answers to declarations. And completeness: what settles its status.
+use Rattle.std.specs.Prelude.{◌≡◌, ◌≢◌, ◌≤◌, ◌<◌, ◌^◌, ◌⊎◌, ◌↔◌, ℕ, List, [], Some, String, length}
 use Rattle.std.specs.declared.alloc.Global.{Global}
 use Rattle.bridge_decl.specs.declared.modules.Module.{Module}
+use Rattle.bridge_outside.specs.Outside.{Rose, taken_with}
 use Rattle.bridge_tool.specs.Breaks.{BreakNothing}
 use Rattle.bridge_tool.specs.Lines.{Reported, AreRefusedBy, lines}
-use Rattle.bridge_outside.specs.Outside.{Rose, taken_with}
 use Rattle.bridge_tool.specs.Page.{IsPage}
 use Rattle.bridge_tool.specs.Running.{World, AreCommand, Spells}
 
 -- The words are a command, the source tells these bytes, and no count of faults rises or stands at the last value of its type.
 pub record IsUndisturbed (words : List (String Global)) (old new : World) (had : List ℕ) : Type 0 where
   pub command : AreCommand words
-  pub told : old.left ≡ Some had
-  pub no_read_failed : ¬ (Rose old.read_faults new.read_faults)
-  pub no_write_failed : ¬ (Rose old.write_faults new.write_faults)
+  pub told : old.source.left ≡ Some had
+  pub no_read_failed : ¬ (Rose old.source.faults new.source.faults)
+  pub no_write_failed : ¬ (Rose old.sink.faults new.sink.faults)
 
 -- What the program does with the declarations that its source spells.
-pub record Headline (modules : List Module) (old new : World) (status : ℕ) : Type 0 where
+pub record AnswersDeclarations (modules : List Module) (old new : World) (code : ℕ) : Type 0 where
   -- it ends with 0 exactly where no declaration breaks a rule
-  pub accepts : (status ≡ 0) ↔ BreakNothing modules
+  pub accepts : (code ≡ 0) ↔ BreakNothing modules
   -- and prints their page, nothing before and nothing after
-  pub page : status ≡ 0 → (text : List ℕ) × IsPage modules text × (new.taken ≡ taken_with old.taken text)
+  pub page : code ≡ 0 → (text : List ℕ) × IsPage modules text × (new.sink.taken ≡ taken_with old.sink.taken text)
   -- otherwise it ends with 1
-  pub refuses : status ≢ 0 → status ≡ 1
+  pub refuses : code ≢ 0 → code ≡ 1
   -- and prints the lines of reports, each of a broken rule and its declaration, with one at each broken place
-  pub reports : status ≡ 1 → (reports : List Reported) × AreRefusedBy modules reports × (new.taken ≡ taken_with old.taken (lines reports))
+  pub reports : code ≡ 1 → (reports : List Reported) × AreRefusedBy modules reports × (new.sink.taken ≡ taken_with old.sink.taken (lines reports))
   -- the source has no bytes left
-  pub none_left : new.left ≡ Some []
+  pub none_left : new.source.left ≡ Some []
 
--- What is answered, but for want of memory, to bytes that the source tells, by what they spell.
-pub record IsComplete (had : List ℕ) (status : ℕ) : Type 0 where
-  pub accepted : (modules : List Module) → Spells had modules → BreakNothing modules → (status ≡ 0) ⊎ (status ≡ 5)
-  pub refused : (modules : List Module) → Spells had modules → ¬ (BreakNothing modules) → (status ≡ 1) ⊎ (status ≡ 5)
-  pub declined : ((modules : List Module) → ¬ (Spells had modules)) → (status ≡ 2) ⊎ (status ≡ 5)
+-- THE HEADLINE: so it does for every command, where nothing disturbs it, the source's bytes are at most 2^26 and spell declarations,
+-- and memory suffices.
+abbrev pub Headline : List (String Global) → World → World → ℕ → Type 0
+Headline words old new code = (had : List ℕ) (modules : List Module) → IsUndisturbed words old new had → length had ≤ 2 ^ 26 → Spells had modules
+    → code ≢ 5 → AnswersDeclarations modules old new code
+
+-- What the bytes of the source say of the status: each of 0, 1, 2 and 7 comes exactly where its row is so.
+pub record Settles (had : List ℕ) (code : ℕ) : Type 0 where
+  pub accepted : (code ≡ 0) ↔ ((length had ≤ 2 ^ 26) × ((modules : List Module) × Spells had modules × BreakNothing modules))
+  pub refused : (code ≡ 1) ↔ ((length had ≤ 2 ^ 26) × ((modules : List Module) × Spells had modules × (¬ (BreakNothing modules))))
+  pub declined : (code ≡ 2) ↔ ((length had ≤ 2 ^ 26) × ((modules : List Module) → ¬ (Spells had modules)))
+  pub too_long : (code ≡ 7) ↔ (2 ^ 26 < length had)
+
+-- COMPLETENESS: where nothing disturbs a command, its bytes settle the status, but for want of memory.
+abbrev pub IsComplete : List (String Global) → World → World → ℕ → Type 0
+IsComplete words old new code = (had : List ℕ) → IsUndisturbed words old new had → (code ≡ 5) ⊎ Settles had code

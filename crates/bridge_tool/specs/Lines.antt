@@ -1,15 +1,13 @@
 -- The lines that are printed for declarations that break a rule.
-use Rattle.std.specs.Prelude.{◌≡◌, ◌≤◌, ℕ, List, [], ◌∷◌, ◌++◌, length, map, codes, decimal, Contains, Option, Some, None, Bool, true, false}
+use Rattle.std.specs.Prelude.{◌≡◌, ◌≤◌, ℕ, List, [], ◌∷◌, ◌++◌, length, map, codes, decimal, Contains, Option, Some, None}
 use Rattle.std.specs.List.{flat_map, join_by}
 use Rattle.bridge_decl.specs.declared.modules.Module.{Module}
 use Rattle.bridge_decl.specs.Names.{Place, path_text}
 use Rattle.bridge_tool.specs.declared.rules.Rule.{Rule}
 use Rattle.bridge_tool.specs.declared.rules.Rule.TheVariants as rule
 use Rattle.bridge_tool.specs.Breaks.{Breaks}
-use Rattle.bridge_tool.specs.Checks.{Check, name, path, lifetime, Tested, tested_in}
+use Rattle.bridge_tool.specs.Checks.{Check, name, path, lifetime, Tested, TestFails, tested_in}
 use Rattle.bridge_tool.specs.Chosen.{Chosen}
-use Rattle.bridge_outside.specs.Printing.{separator_at}
-use Rattle.bridge_tool.specs.Reports.{TestFails}
 
 -- a report: a rule, the place where it is broken, and the arguments of its text
 pub record Reported : Type 0 where
@@ -52,23 +50,13 @@ abbrev pub segments_text : List (List ℕ) → List ℕ
 segments_text [] = codes "root module"
 segments_text (segment ∷ segments) = join_by (λ s. s) (codes "::") (segment ∷ segments)
 
-abbrev pub place_text : Place → List ℕ
-place_text place = segments_text (place_segments place)
-
--- what stands for a segment, if there is one, after so many others
-abbrev pub after : ℕ → List (List ℕ) → List ℕ
-after before [] = []
-after before (segment ∷ segments) = separator_at (codes "::") before ++ segment
-
--- what stands for the root alone
-abbrev pub root_text : Bool → List ℕ
-root_text true = codes "root module"
-root_text false = []
+abbrev pub report_place_text : Place → List ℕ
+report_place_text place = segments_text (place_segments place)
 
 -- the two lines of a report
 abbrev pub report_text : Reported → List ℕ
 report_text report =
-    codes "Lowering error in " ++ place_text report.place ++ codes "\n  " ++ rule_name report.rule ++ codes ": " ++ rule_text report.rule report.args ++ codes "\n"
+    codes "Lowering error in " ++ report_place_text report.place ++ codes "\n  " ++ rule_name report.rule ++ codes ": " ++ rule_text report.rule report.args ++ codes "\n"
 
 -- the lines of all reports, and last how many they are
 abbrev pub lines : List Reported → List ℕ

@@ -4,15 +4,15 @@ use Rattle.std.specs.List.{flat_map, join_by}
 use Rattle.bridge_decl.specs.declared.methods.Method.{Method}
 use Rattle.bridge_decl.specs.declared.modules.Module.{Module}
 use Rattle.bridge_decl.specs.Lifetimes.{lifetime_names}
-use Rattle.bridge_tool.specs.declared.report.InputPlace.{InputPlace}
-use Rattle.bridge_tool.specs.declared.report.InputPlace.TheVariants.{Receiver, Param as Parameter}
-use Rattle.bridge_tool.specs.declared.report.LeafPath.{LeafPath}
-use Rattle.bridge_tool.specs.declared.report.ReportEdge.{ReportEdge}
-use Rattle.bridge_tool.specs.declared.report.ReportEdgeKind.{ReportEdgeKind}
-use Rattle.bridge_tool.specs.declared.report.ReportEdgeKind.TheVariants.{Opaque, Slice, Struct}
-use Rattle.bridge_tool.specs.declared.report.ReturnedLifetime.{ReturnedLifetime}
-use Rattle.bridge_tool.specs.declared.report.CallableReport.{CallableReport}
-use Rattle.bridge_tool.specs.Borrows.{Callable, callables, AreReports}
+use Rattle.bridge_tool.specs.declared.borrowing.InputPlace.{InputPlace}
+use Rattle.bridge_tool.specs.declared.borrowing.InputPlace.TheVariants.{Receiver, Param as Parameter}
+use Rattle.bridge_tool.specs.declared.borrowing.LeafPath.{LeafPath}
+use Rattle.bridge_tool.specs.declared.borrowing.ReportEdge.{ReportEdge}
+use Rattle.bridge_tool.specs.declared.borrowing.ReportEdgeKind.{ReportEdgeKind}
+use Rattle.bridge_tool.specs.declared.borrowing.ReportEdgeKind.TheVariants.{Opaque, Slice, Struct}
+use Rattle.bridge_tool.specs.declared.borrowing.ReturnedLifetime.{ReturnedLifetime}
+use Rattle.bridge_tool.specs.declared.borrowing.CallableReport.{CallableReport}
+use Rattle.bridge_tool.specs.Borrows.{Callable, callables, AreBorrowings}
 
 -- the name of an input: that of a parameter, and `this` for the receiver
 abbrev pub input_text : Method → InputPlace → List ℕ
@@ -20,8 +20,8 @@ input_text method Receiver = codes "this"
 input_text method (Parameter n) = slice_index_or (map (λ param. param.name) method.params) n []
 
 -- a path to a leaf: so far an input
-abbrev pub path_text : Method → LeafPath → List ℕ
-path_text method path = input_text method path.input
+abbrev pub leaf_text : Method → LeafPath → List ℕ
+leaf_text method path = input_text method path.input
 
 abbrev pub optional_text : Bool → List ℕ
 optional_text true = codes " optional"
@@ -42,8 +42,8 @@ opening true = []
 opening false = codes " "
 
 -- the texts of a list, with a comma between two, after a space where there are any
-abbrev pub listed : {A : Type 0} → (A → List ℕ) → List A → List ℕ
-listed text_of xs = opening (length xs == 0) ++ join_by text_of (codes ", ") xs
+abbrev pub list_text : {A : Type 0} → (A → List ℕ) → List A → List ℕ
+list_text text_of xs = opening (length xs == 0) ++ join_by text_of (codes ", ") xs
 
 -- the name of a lifetime
 abbrev pub lifetime_text : Method → ℕ → List ℕ
@@ -53,11 +53,11 @@ lifetime_text method t = slice_index_or (lifetime_names method.lifetime_env) t [
 abbrev pub paths_line : Method → ReturnedLifetime → List ℕ
 paths_line method returned =
     codes "  lifetime " ++ decimal returned.lifetime ++ codes " " ++ lifetime_text method returned.lifetime ++ codes ":"
-    ++ listed (path_text method) returned.leaves ++ codes "\n"
+    ++ list_text (leaf_text method) returned.leaves ++ codes "\n"
 
 -- its edges
 abbrev pub edges_line : Method → ReturnedLifetime → List ℕ
-edges_line method returned = codes "  edges:" ++ listed (edge_text method) returned.edges ++ codes "\n"
+edges_line method returned = codes "  edges:" ++ list_text (edge_text method) returned.edges ++ codes "\n"
 
 abbrev pub returned_text : Method → ReturnedLifetime → List ℕ
 returned_text method returned = paths_line method returned ++ edges_line method returned
@@ -67,29 +67,24 @@ abbrev pub prefix_text : List (List ℕ) → List ℕ
 prefix_text path = flat_map (λ segment. segment ++ codes "::") path
 
 -- the module, the item and the method of a callable
-abbrev pub place_text : Callable → List ℕ
-place_text callable = prefix_text callable.path ++ callable.item ++ codes "::" ++ callable.method.name
+abbrev pub callable_place_text : Callable → List ℕ
+callable_place_text callable = prefix_text callable.path ++ callable.item ++ codes "::" ++ callable.method.name
 
 abbrev pub callable_text : Callable → CallableReport → List ℕ
-callable_text callable report =
-    (codes "callable " ++ place_text callable ++ codes "\n") ++ flat_map (returned_text callable.method) report.returned
+callable_text callable borrowing =
+    (codes "callable " ++ callable_place_text callable ++ codes "\n") ++ flat_map (returned_text callable.method) borrowing.returned
 
--- a callable with its report, where it has one
-abbrev pub text_with : Callable → Option CallableReport → List ℕ
-text_with callable None = []
-text_with callable (Some report) = callable_text callable report
-
--- the lines of the callables with their reports
+-- the lines of the callables with their borrowings
 abbrev pub callables_text : List Callable → List CallableReport → List ℕ
-callables_text [] reports = []
+callables_text [] borrowings = []
 callables_text (callable ∷ callables) [] = []
-callables_text (callable ∷ callables) (report ∷ reports) = callable_text callable report ++ callables_text callables reports
+callables_text (callable ∷ callables) (borrowing ∷ borrowings) = callable_text callable borrowing ++ callables_text callables borrowings
 
 -- the whole page, whose last line says how many callables there are
 abbrev pub page_of : List Callable → List CallableReport → List ℕ
-page_of callables reports = callables_text callables reports ++ (codes "ok " ++ decimal (length callables) ++ codes "\n")
+page_of callables borrowings = callables_text callables borrowings ++ (codes "ok " ++ decimal (length callables) ++ codes "\n")
 
 -- the text is the page of the declarations
 abbrev pub IsPage : List Module → List ℕ → Type 0
 IsPage modules text =
-    (reports : List CallableReport) × AreReports modules reports × (text ≡ page_of (callables modules) reports)
+    (borrowings : List CallableReport) × AreBorrowings modules borrowings × (text ≡ page_of (callables modules) borrowings)

@@ -1,165 +1,103 @@
--- What a run of the program does to the outside.
-use Rattle.std.specs.Prelude.{◌≡◌, ◌≤◌, ◌<◌, ◌^◌, ◌⊎◌, ◌++◌, ℕ, List, [], ◌∷◌, length, map, codes, string_bytes, Option, Some, IfSome, String, Result, Ok, Err}
+-- What a run of the program does to the outside, by the status that it ends with.
+use Rattle.std.specs.Prelude.{◌≡◌, ◌≤◌, ◌<◌, ◌^◌, ◌⊎◌, ◌++◌, ℕ, List, [], ◌∷◌, length, map, codes, string_bytes, Some, IfSome, String}
 use Rattle.std.specs.declared.alloc.Global.{Global}
 use Rattle.bridge_decl.specs.declared.modules.Module.{Module}
 use Rattle.bridge_read.specs.declared.input.Input.{Input}
-use Rattle.bridge_outside.specs.declared.sink.SinkFault.{SinkFault}
-use Rattle.bridge_outside.specs.declared.sink.SinkFault.TheVariants.{Failed, NoMemory}
+use Rattle.bridge_read.specs.Inputs.{SpellsInput}
+use Rattle.bridge_outside.specs.Outside.{Rose, SinkState, SourceState, taken_with}
 use Rattle.bridge_tool.specs.declared.status.Status.{Status}
 use Rattle.bridge_tool.specs.declared.status.Status.TheVariants as status
 use Rattle.bridge_tool.specs.Breaks.{BreakNothing}
 use Rattle.bridge_tool.specs.Built.{AreBuilt}
 use Rattle.bridge_tool.specs.Declining.{IsDeclinedBy}
-use Rattle.bridge_read.specs.Inputs.{SpellsInput}
 use Rattle.bridge_tool.specs.Lines.{Reported, AreRefusedBy, lines}
-use Rattle.bridge_outside.specs.Outside.{Rose, taken_with}
 use Rattle.bridge_tool.specs.Page.{IsPage}
+use Rattle.bridge_tool.specs.Statuses.{code_of}
 
--- the outside: the bytes that the source has left and those that the sink has taken, where they are told, and how often each failed
+-- The outside of a run: what its source and its sink show.
 pub record World : Type 0 where
-  pub left : Option (List ℕ)
-  pub read_faults : ℕ
-  pub taken : Option (List ℕ)
-  pub write_faults : ℕ
+  pub source : SourceState
+  pub sink : SinkState
 
-abbrev pub world : Option (List ℕ) → ℕ → Option (List ℕ) → ℕ → World
-world left read_faults taken write_faults = record { left = left; read_faults = read_faults; taken = taken; write_faults = write_faults }
+abbrev pub world : SourceState → SinkState → World
+world source sink = record { source = source; sink = sink }
 
 -- the words of the command line are a command: none, or `check`
 abbrev pub AreCommand : List (String Global) → Type 0
 AreCommand words = (map string_bytes words ≡ []) ⊎ (map string_bytes words ≡ codes "check" ∷ [])
 
--- the bytes spell an input with these declarations, all of which are built
+-- The bytes spell an input with these declarations, all of which are built.
 pub record Spells (bytes : List ℕ) (modules : List Module) : Type 0 where
   pub input : Input
   pub spelled : SpellsInput bytes input
   pub is : modules ≡ input.env
   pub built : AreBuilt modules
 
--- the bytes spell declarations that break no rule
-pub record AreAccepted (bytes : List ℕ) (modules : List Module) : Type 0 where
-  pub spells : Spells bytes modules
-  pub keeps : BreakNothing modules
+-- The text that answers bytes with a status: 0, the page of the declarations that they spell, which break no rule; 1, the lines of the
+-- reports on them, which break one; 2, the line that declines bytes that spell none.
+abbrev pub Answers : List ℕ → Status → List ℕ → Type 0
+Answers bytes status.Accepted text = (modules : List Module) × Spells bytes modules × BreakNothing modules × IsPage modules text
+Answers bytes status.Refused text =
+    (modules : List Module) × (reports : List Reported) × Spells bytes modules × AreRefusedBy modules reports × (text ≡ lines reports)
+Answers bytes status.NotDeclarations text = IsDeclinedBy bytes text
+Answers bytes status.ReadFailed text = ⊥
+Answers bytes status.WriteFailed text = ⊥
+Answers bytes status.NoMemory text = ⊥
+Answers bytes status.BadWords text = ⊥
+Answers bytes status.TooLong text = ⊥
 
--- these are all the bytes that the source had, at most 2^26, and it has none left
-pub record WereRead (old new : World) (bytes : List ℕ) : Type 0 where
+-- These are all the bytes that the source had, at most 2^26; no read failed, and it has none left.
+pub record WereRead (old new : SourceState) (bytes : List ℕ) : Type 0 where
   pub all : IfSome old.left (λ had. bytes ≡ had)
   pub short : length bytes ≤ 2 ^ 26
   pub none_left : IfSome old.left (λ had. new.left ≡ Some [])
-  pub no_fault : new.read_faults ≡ old.read_faults
+  pub no_fault : new.faults ≡ old.faults
 
--- the sink took this text, nothing before and nothing after
-pub record WasTaken (old new : World) (text : List ℕ) : Type 0 where
+-- The source had more than 2^26 bytes, where it tells them, and no read failed.
+pub record IsTooLong (old new : SourceState) : Type 0 where
+  pub long : IfSome old.left (λ had. 2 ^ 26 < length had)
+  pub no_fault : new.faults ≡ old.faults
+
+-- The sink took this text, nothing before and nothing after, and no write failed.
+pub record WasTaken (old new : SinkState) (text : List ℕ) : Type 0 where
   pub taken : new.taken ≡ taken_with old.taken text
-  pub no_fault : new.write_faults ≡ old.write_faults
+  pub no_fault : new.faults ≡ old.faults
 
--- nothing went to the sink
-pub record NothingTaken (old new : World) : Type 0 where
+-- The sink took nothing, and no write failed.
+pub record NothingTaken (old new : SinkState) : Type 0 where
   pub taken : new.taken ≡ old.taken
-  pub no_fault : new.write_faults ≡ old.write_faults
+  pub no_fault : new.faults ≡ old.faults
 
--- the declarations that the bytes spell are accepted, and their page was printed
-pub record Accepts (old new : World) : Type 0 where
-  pub bytes : List ℕ
-  pub modules : List Module
-  pub page : List ℕ
-  pub read : WereRead old new bytes
-  pub accepted : AreAccepted bytes modules
-  pub is_page : IsPage modules page
-  pub taken : WasTaken old new page
-
--- the declarations that the bytes spell break a rule, and the lines of their reports were printed
-pub record Refuses (old new : World) : Type 0 where
-  pub bytes : List ℕ
-  pub modules : List Module
-  pub reports : List Reported
-  pub read : WereRead old new bytes
-  pub spells : Spells bytes modules
-  pub refused : AreRefusedBy modules reports
-  pub taken : WasTaken old new (lines reports)
-
--- the bytes are declined, and the line that says so was printed
-pub record Declines (old new : World) : Type 0 where
-  pub bytes : List ℕ
-  pub line : List ℕ
-  pub read : WereRead old new bytes
-  pub declined : IsDeclinedBy bytes line
-  pub taken : WasTaken old new line
-
--- the text that answers declarations: their page where they break no rule, else the lines of their reports
-abbrev pub IsTextOf : List Module → List ℕ → Type 0
-IsTextOf modules text =
-    (BreakNothing modules × IsPage modules text) ⊎ ((reports : List Reported) × AreRefusedBy modules reports × (text ≡ lines reports))
-
--- the text that answers bytes: that of the declarations that they spell, or the line that declines them
-abbrev pub IsAnswerTo : List ℕ → List ℕ → Type 0
-IsAnswerTo bytes text = ((modules : List Module) × Spells bytes modules × IsTextOf modules text) ⊎ IsDeclinedBy bytes text
-
--- the sink took a first part of a text of which P holds
-pub record FirstPart (P : List ℕ → Type 0) (taken taken' : Option (List ℕ)) : Type 0 where
+-- The sink took a first part of a text of which P holds, with some status.
+pub record FirstPart (P : Status → List ℕ → Type 0) (old new : SinkState) : Type 0 where
+  pub status : Status
   pub text : List ℕ
-  pub of : P text
+  pub of : P status text
   pub sent : List ℕ
   pub rest : List ℕ
   pub parts : sent ++ rest ≡ text
-  pub took : taken' ≡ taken_with taken sent
+  pub took : new.taken ≡ taken_with old.taken sent
 
--- the sink took nothing, or a first part of a text of which P holds
-abbrev pub IsCutOff : (List ℕ → Type 0) → Option (List ℕ) → Option (List ℕ) → Type 0
-IsCutOff P taken taken' = (taken' ≡ taken) ⊎ FirstPart P taken taken'
+-- All bytes were read, and the sink took exactly the text that answers them with this status.
+abbrev pub IsAnswered : World → World → Status → Type 0
+IsAnswered old new status =
+    (bytes : List ℕ) × WereRead old.source new.source bytes × ((text : List ℕ) × Answers bytes status text × WasTaken old.sink new.sink text)
 
--- the sink took nothing, or a first part of the text that answers the bytes that were read
-abbrev pub IsUnfinished : World → World → Type 0
-IsUnfinished old new = (new.taken ≡ old.taken) ⊎ ((bytes : List ℕ) × WereRead old new bytes × FirstPart (IsAnswerTo bytes) old.taken new.taken)
+-- All bytes were read, and the sink took a first part of a text that answers them.
+abbrev pub IsCutShort : World → World → Type 0
+IsCutShort old new = (bytes : List ℕ) × WereRead old.source new.source bytes × FirstPart (Answers bytes) old.sink new.sink
 
--- no read failed, and then a write did
-pub record WriteFails (old new : World) : Type 0 where
-  pub bytes : List ℕ
-  pub read : WereRead old new bytes
-  pub failed : Rose old.write_faults new.write_faults
-  pub cut_off : IsCutOff (IsAnswerTo bytes) old.taken new.taken
+-- THE TABLE OF STATUSES: what each says of the words, and of the outside before and after the run.
+abbrev pub Says : List (String Global) → World → World → Status → Type 0
+Says words old new status.Accepted = AreCommand words × IsAnswered old new status.Accepted
+Says words old new status.Refused = AreCommand words × IsAnswered old new status.Refused
+Says words old new status.NotDeclarations = AreCommand words × IsAnswered old new status.NotDeclarations
+Says words old new status.ReadFailed = AreCommand words × Rose old.source.faults new.source.faults × NothingTaken old.sink new.sink
+Says words old new status.WriteFailed = AreCommand words × Rose old.sink.faults new.sink.faults × IsCutShort old new
+Says words old new status.NoMemory = AreCommand words × ((new.sink.taken ≡ old.sink.taken) ⊎ IsCutShort old new)
+Says words old new status.BadWords = ¬ (AreCommand words) × (new ≡ old)
+Says words old new status.TooLong = AreCommand words × IsTooLong old.source new.source × NothingTaken old.sink new.sink
 
--- what happened, by the status that it ends with
-abbrev pub Ran : List (String Global) → World → World → Status → Type 0
-Ran words old new status.Accepted = AreCommand words × Accepts old new
-Ran words old new status.Refused = AreCommand words × Refuses old new
-Ran words old new status.NotDeclarations = AreCommand words × Declines old new
-Ran words old new status.ReadFailed = AreCommand words × Rose old.read_faults new.read_faults × NothingTaken old new
-Ran words old new status.WriteFailed = AreCommand words × WriteFails old new
-Ran words old new status.NoMemory = AreCommand words × IsUnfinished old new
-Ran words old new status.BadWords = ¬ (AreCommand words) × (new ≡ old)
-Ran words old new status.TooLong =
-    AreCommand words × IfSome old.left (λ had. 2 ^ 26 < length had) × (new.read_faults ≡ old.read_faults) × NothingTaken old new
-
--- the status once a verdict was printed
-abbrev pub ended_with : Status → Result (Unit {0}) SinkFault → Status
-ended_with verdict (Ok done) = verdict
-ended_with verdict (Err Failed) = status.WriteFailed
-ended_with verdict (Err NoMemory) = status.NoMemory
-
--- what was printed of declarations, by the status that it ends with
-abbrev pub Told : List Module → Option (List ℕ) → Option (List ℕ) → ℕ → ℕ → Status → Type 0
-Told modules taken taken' faults faults' status.Accepted =
-    (page : List ℕ) × BreakNothing modules × IsPage modules page × (taken' ≡ taken_with taken page) × (faults' ≡ faults)
-Told modules taken taken' faults faults' status.Refused =
-    (reports : List Reported) × AreRefusedBy modules reports × (taken' ≡ taken_with taken (lines reports)) × (faults' ≡ faults)
-Told modules taken taken' faults faults' status.NotDeclarations = ⊥
-Told modules taken taken' faults faults' status.ReadFailed = ⊥
-Told modules taken taken' faults faults' status.WriteFailed = Rose faults faults' × IsCutOff (IsTextOf modules) taken taken'
-Told modules taken taken' faults faults' status.NoMemory = IsCutOff (IsTextOf modules) taken taken'
-Told modules taken taken' faults faults' status.BadWords = ⊥
-Told modules taken taken' faults faults' status.TooLong = ⊥
-
--- what printing the verdict on bytes did to the sink, by the status that it ends with
-abbrev pub Answered : List ℕ → Option (List ℕ) → Option (List ℕ) → ℕ → ℕ → Status → Type 0
-Answered bytes taken taken' faults faults' status.Accepted =
-    (modules : List Module) × (page : List ℕ) × AreAccepted bytes modules × IsPage modules page × (taken' ≡ taken_with taken page) × (faults' ≡ faults)
-Answered bytes taken taken' faults faults' status.Refused =
-    (modules : List Module) × (reports : List Reported) × Spells bytes modules × AreRefusedBy modules reports × (taken' ≡ taken_with taken (lines reports)) × (faults' ≡ faults)
-Answered bytes taken taken' faults faults' status.NotDeclarations =
-    (line : List ℕ) × IsDeclinedBy bytes line × (taken' ≡ taken_with taken line) × (faults' ≡ faults)
-Answered bytes taken taken' faults faults' status.ReadFailed = ⊥
-Answered bytes taken taken' faults faults' status.WriteFailed = Rose faults faults' × IsCutOff (IsAnswerTo bytes) taken taken'
-Answered bytes taken taken' faults faults' status.NoMemory = IsCutOff (IsAnswerTo bytes) taken taken'
-Answered bytes taken taken' faults faults' status.BadWords = ⊥
-Answered bytes taken taken' faults faults' status.TooLong = ⊥
+-- the run ended with the number of a status, and what this status says is so
+abbrev pub Ran : List (String Global) → World → World → ℕ → Type 0
+Ran words old new code = (status : Status) × (code ≡ code_of status) × Says words old new status

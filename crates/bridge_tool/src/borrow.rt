@@ -10,24 +10,27 @@ ghost use Rattle.bridge_decl.specs.declared.methods.Method.{Method as Declared};
 ghost use Rattle.bridge_decl.specs.Lifetimes.{lifetime_names, declared_longer, IsSoundEnvironment};
 ghost use Rattle.bridge_decl.specs.Ident.{IsIdent};
 ghost use Rattle.bridge_ast.specs.Sound.{AreSound};
-ghost use Rattle.bridge_tool.specs.Borrows.{numbers, leaves_at, param_leaves, leaves as leaves_in, named, IsReturned, Callable, callables_of, callables_in, IsCallableReport, AreReports, callables_at};
+ghost use Rattle.bridge_tool.specs.Borrows.{numbers, leaves_at, param_leaves, leaves as leaves_in, returned_numbers, IsReturned, Callable, callables_of, callables_in, IsCallableBorrowing, AreBorrowings, callables_at};
 ghost use Rattle.bridge_tool.specs.Chosen.{EachPair};
-ghost use Rattle.bridge_tool.specs.Walking.{walk_order};
-ghost use Rattle.bridge_tool.specs.Index.{Indexes};
-ghost use Rattle.bridge_tool.specs.Leaves.{leaf_of, IsInRange, AreInRange, Lists};
-ghost use Rattle.bridge_tool.specs.Signature.{environment, HasNames, HasNamedMethods, HasNamedItems};
-ghost use Rattle.bridge_tool.specs.Methods.{HasSoundMethods, HasSoundItems};
+ghost use Rattle.bridge_tool.specs.Order.{module_order};
+ghost use Rattle.bridge_decl.specs.NameIndex.{Indexes};
+ghost use Rattle.bridge_tool.specs.inside.Listing.{leaf_of, IsInRange, AreInRange, Lists};
+ghost use Rattle.hir_life.specs.Declarations.{declared_environment};
+ghost use Rattle.bridge_tool.specs.inside.Signatures.{HasNames, HasNamedMethods, HasNamedItems};
+ghost use Rattle.bridge_tool.specs.inside.Signatures.{HasSoundMethods, HasSoundItems};
 
-use crate::declarations::{methods, receiver_lifetime, written_lifetime};
-use crate::environment::environment_of;
-use crate::index::{NameIndex, index_lifetimes};
-use crate::report::{
+use crate::borrowing::{
     CallableReport, InputPlace, LeafPath, ReportEdge, ReportEdgeKind, ReturnedLifetime,
 };
-use bridge_ast::{Item, Lifetime as WrittenLifetime, Method, Module, NoMemory, Param, TypeName};
+use crate::declarations::{methods, receiver_lifetime, written_lifetime};
+use bridge_ast::{
+    IdentFault, Item, Lifetime as WrittenLifetime, LifetimeEnv as Declaration, Method, Module,
+    NoMemory, Param, TypeName,
+};
+use bridge_decl::{NameIndex, index_lifetimes};
 use hir_life::{Lifetime, LifetimeEnv};
 use sqlite_items::{Items, at};
-use std::alloc::Global;
+use std::alloc::{AllocError, Global};
 
 /// An input that refers to an opaque, and the number of the lifetime that it carries.
 #[derive(Clone, Copy)]
@@ -37,8 +40,9 @@ pub struct Leaf {
 }
 
 /// The number of a lifetime, where it has one.
-fn number_in(names: &NameIndex, lifetime: &WrittenLifetime) -> Option<usize>
-    ensures { (env : Signature) → Indexes names.now (lifetime_names env) → option_to_list result ≡ numbers env lifetime.now }
+fn number_in(names: &NameIndex<usize>, lifetime: &WrittenLifetime) -> Option<usize>
+    ensures { (env : Signature) → Indexes names.now (lifetime_names env)
+        → option_to_list result ≡ numbers env lifetime.now }
 {
     match lifetime {
         WrittenLifetime::Named(name) => names.get(name).copied(),
@@ -49,12 +53,13 @@ fn number_in(names: &NameIndex, lifetime: &WrittenLifetime) -> Option<usize>
 /// Adds the leaf that an input is under the lifetime of its reference.
 fn push_leaf(
     leaves: &mut Vec<Leaf>,
-    names: &NameIndex,
+    names: &NameIndex<usize>,
     input: InputPlace,
     lifetime: Option<&WrittenLifetime>,
 ) -> Result<(), NoMemory>
     ensures { (env : Signature) → Indexes names.now (lifetime_names env)
-        → OnOk result (map leaf_of leaves.new.items ≡ map leaf_of leaves.old.items ++ leaves_at env input (option_to_list (option_copied lifetime.entry))) }
+        → OnOk result (map leaf_of leaves.new.items ≡ map leaf_of leaves.old.items
+        ++ leaves_at env input (option_to_list (option_copied lifetime.entry))) }
 {
     if let Some(lifetime) = lifetime {
         leaves.push(Leaf {
@@ -65,9 +70,14 @@ fn push_leaf(
     Ok(())
 }
 
-fn push_params(leaves: &mut Vec<Leaf>, names: &NameIndex, params: &[Param]) -> Result<(), NoMemory>
+fn push_params(
+    leaves: &mut Vec<Leaf>,
+    names: &NameIndex<usize>,
+    params: &[Param],
+) -> Result<(), NoMemory>
     ensures { (env : Signature) → Indexes names.now (lifetime_names env)
-        → OnOk result (map leaf_of leaves.new.items ≡ map leaf_of leaves.old.items ++ param_leaves env 0 params.now) }
+        → OnOk result (map leaf_of leaves.new.items ≡ map leaf_of leaves.old.items
+        ++ param_leaves env 0 params.now) }
 {
     for (number, param) in params.iter().enumerate() {
         push_leaf(
@@ -81,8 +91,13 @@ fn push_params(leaves: &mut Vec<Leaf>, names: &NameIndex, params: &[Param]) -> R
 }
 
 /// The leaves of the inputs: of the receiver, and then of the parameters.
-fn leaves_of(alloc: Global, names: &NameIndex, method: &Method) -> Result<Vec<Leaf>, NoMemory>
-    ensures { Indexes names.now (lifetime_names method.now.lifetime_env) → IfOk result (λ found. map leaf_of found.items ≡ leaves_in method.now) }
+fn leaves_of(
+    alloc: Global,
+    names: &NameIndex<usize>,
+    method: &Method,
+) -> Result<Vec<Leaf>, NoMemory>
+    ensures { Indexes names.now (lifetime_names method.now.lifetime_env)
+        → IfOk result (λ found. map leaf_of found.items ≡ leaves_in method.now) }
 {
     let mut leaves = Vec::new(alloc);
     push_leaf(
@@ -97,8 +112,10 @@ fn leaves_of(alloc: Global, names: &NameIndex, method: &Method) -> Result<Vec<Le
 
 /// Whether the leaf carries a lifetime whose flag is set.
 fn carries(flags: &[bool], leaf: &Leaf) -> bool
-    ensures { (env : Environment) (t : ℕ) → FlagsOutliving env t flags.now → IsInRange env.count (leaf_of leaf.now)
-        → (IsTrue result ↔ Any (λ carried. Outlives (longer_of env) carried t) (leaf_of leaf.now).carried) }
+    ensures { (env : Environment) (t : ℕ) → FlagsOutliving env t flags.now
+        → IsInRange env.count (leaf_of leaf.now)
+        → (IsTrue result ↔ Any (λ carried. Outlives (longer_of env) carried t)
+        (leaf_of leaf.now).carried) }
 {
     match leaf.carried {
         Some(carried) => flags.get(carried).copied().unwrap_or(false),
@@ -114,8 +131,10 @@ fn list_leaf(
     paths: &mut Vec<LeafPath>,
     edges: &mut Vec<ReportEdge>,
 ) -> Result<(), NoMemory>
-    ensures { (env : Signature) (t : ℕ) → FlagsOutliving (environment env) t flags.now → IsInRange (length env.nodes) (leaf_of leaf.now)
-        → OnOk result (Lists env t (leaf_of leaf.now ∷ []) (paths.old.items, edges.old.items) (paths.new.items, edges.new.items)) }
+    ensures { (env : Signature) (t : ℕ) → FlagsOutliving (declared_environment env) t flags.now
+        → IsInRange (length env.nodes) (leaf_of leaf.now)
+        → OnOk result (Lists env t (leaf_of leaf.now ∷ []) (paths.old.items, edges.old.items)
+        (paths.new.items, edges.new.items)) }
 {
     if carries(flags, leaf) {
         paths.push(LeafPath {
@@ -137,8 +156,10 @@ fn list_leaves(
     paths: &mut Vec<LeafPath>,
     edges: &mut Vec<ReportEdge>,
 ) -> Result<(), NoMemory>
-    ensures { (env : Signature) (t : ℕ) → FlagsOutliving (environment env) t flags.now → AreInRange (length env.nodes) (map leaf_of leaves.now)
-        → OnOk result (Lists env t (map leaf_of leaves.now) (paths.old.items, edges.old.items) (paths.new.items, edges.new.items)) }
+    ensures { (env : Signature) (t : ℕ) → FlagsOutliving (declared_environment env) t flags.now
+        → AreInRange (length env.nodes) (map leaf_of leaves.now)
+        → OnOk result (Lists env t (map leaf_of leaves.now) (paths.old.items, edges.old.items)
+        (paths.new.items, edges.new.items)) }
 {
     for leaf in leaves {
         list_leaf(alloc, flags, leaf, paths, edges)?;
@@ -154,7 +175,8 @@ fn returned_lifetime(
     lifetime: Lifetime,
 ) -> Result<ReturnedLifetime, NoMemory>
     requires { lifetime < env.now.count }
-    ensures { (method : Declared) → env.now ≡ environment method.lifetime_env → map leaf_of leaves.now ≡ leaves_in method
+    ensures { (method : Declared) → env.now ≡ declared_environment method.lifetime_env
+        → map leaf_of leaves.now ≡ leaves_in method
         → IfOk result (IsReturned method lifetime) }
 {
     let flags = env.outliving_flags(alloc, lifetime)?;
@@ -169,8 +191,9 @@ fn returned_lifetime(
 }
 
 /// The number of the lifetime that a method returns, where it returns one.
-fn returned_number(names: &NameIndex, method: &Method) -> Option<usize>
-    ensures { Indexes names.now (lifetime_names method.now.lifetime_env) → option_to_list result ≡ named method.now }
+fn returned_number(names: &NameIndex<usize>, method: &Method) -> Option<usize>
+    ensures { Indexes names.now (lifetime_names method.now.lifetime_env)
+        → option_to_list result ≡ returned_numbers method.now }
 {
     match &method.return_type {
         Some(ty) => match written_lifetime(ty) {
@@ -181,90 +204,109 @@ fn returned_number(names: &NameIndex, method: &Method) -> Option<usize>
     }
 }
 
+/// The environment of the lifetimes of a method.
+fn environment_of(alloc: Global, env: &Declaration) -> Result<LifetimeEnv, NoMemory>
+    requires sound { IsSoundEnvironment env.now }
+    requires names { HasNames env.now }
+    ensures { IfOk result (λ made. made ≡ declared_environment env.now) }
+{
+    match LifetimeEnv::of_declared(alloc, env) {
+        Ok(made) => Ok(made),
+        Err(IdentFault::Bad) => unreachable!(),
+        Err(IdentFault::NoMemory) => Err(AllocError),
+    }
+}
+
 /// What may be borrowed under each lifetime that a method returns.
-fn callable_report(alloc: Global, method: &Method) -> Result<CallableReport, NoMemory>
+fn callable_borrowing(alloc: Global, method: &Method) -> Result<CallableReport, NoMemory>
     requires sound { IsSoundEnvironment method.now.lifetime_env }
     requires names { HasNames method.now.lifetime_env }
-    ensures { (callable : Callable) → callable.method ≡ method.now → IfOk result (IsCallableReport callable) }
+    ensures { (callable : Callable) → callable.method ≡ method.now
+        → IfOk result (IsCallableBorrowing callable) }
 {
-    let Some(names) = index_lifetimes(alloc, &method.lifetime_env)? else {
-        unreachable!()
-    };
+    let names = index_lifetimes(alloc, &method.lifetime_env)?;
     let leaves = leaves_of(alloc, &names, method)?;
+    let Some(number) = returned_number(&names, method) else {
+        return Ok(CallableReport {
+            returned: Items::new(alloc),
+        });
+    };
+    let env = environment_of(alloc, &method.lifetime_env)?;
     let mut returned = Vec::new(alloc);
-    if let Some(number) = returned_number(&names, method) {
-        let env = environment_of(alloc, &method.lifetime_env)?;
-        returned.push(returned_lifetime(alloc, &env, &leaves, Lifetime::new(number))?)?;
-    }
+    returned.push(returned_lifetime(alloc, &env, &leaves, Lifetime::new(number))?)?;
     Ok(CallableReport {
         returned: Items::from_vec(returned),
     })
 }
 
-fn push_reports(
+fn push_borrowings(
     alloc: Global,
-    reports: &mut Vec<CallableReport>,
+    borrowings: &mut Vec<CallableReport>,
     item: &Item,
 ) -> Result<(), NoMemory>
     requires sound { HasSoundMethods item.now }
     requires names { HasNamedMethods item.now }
-    ensures { (path : List (List ℕ)) (before : List Callable) → EachPair IsCallableReport before reports.old.items
-        → OnOk result (EachPair IsCallableReport (before ++ callables_of path item.now) reports.new.items) }
+    ensures { (path : List (List ℕ)) (before : List Callable)
+        → EachPair IsCallableBorrowing before borrowings.old.items
+        → OnOk result (EachPair IsCallableBorrowing (before ++ callables_of path item.now)
+        borrowings.new.items) }
 {
     for method in methods(item) {
-        reports.push(callable_report(alloc, method)?)?;
+        borrowings.push(callable_borrowing(alloc, method)?)?;
     }
     Ok(())
 }
 
 fn push_module(
     alloc: Global,
-    reports: &mut Vec<CallableReport>,
+    borrowings: &mut Vec<CallableReport>,
     declared: &Module,
 ) -> Result<(), NoMemory>
     requires sound { HasSoundItems declared.now }
     requires names { HasNamedItems declared.now }
-    ensures { (before : List Callable) → EachPair IsCallableReport before reports.old.items
-        → OnOk result (EachPair IsCallableReport (before ++ callables_in declared.now) reports.new.items) }
+    ensures { (before : List Callable) → EachPair IsCallableBorrowing before borrowings.old.items
+        → OnOk result (EachPair IsCallableBorrowing (before ++ callables_in declared.now)
+        borrowings.new.items) }
 {
     let items = declared.items.as_slice();
     for item in items {
-        push_reports(alloc, reports, item)?;
+        push_borrowings(alloc, borrowings, item)?;
     }
     Ok(())
 }
 
 fn push_number(
     alloc: Global,
-    reports: &mut Vec<CallableReport>,
+    borrowings: &mut Vec<CallableReport>,
     modules: &[Module],
     number: usize,
 ) -> Result<(), NoMemory>
     requires sound { All HasSoundItems modules.now }
     requires names { All HasNamedItems modules.now }
-    ensures { (before : List Callable) → EachPair IsCallableReport before reports.old.items
-        → OnOk result (EachPair IsCallableReport (before ++ callables_at modules.now number) reports.new.items) }
+    ensures { (before : List Callable) → EachPair IsCallableBorrowing before borrowings.old.items
+        → OnOk result (EachPair IsCallableBorrowing (before ++ callables_at modules.now number)
+        borrowings.new.items) }
 {
     match at(modules, number) {
-        Some(module) => push_module(alloc, reports, module),
+        Some(module) => push_module(alloc, borrowings, module),
         None => Ok(()),
     }
 }
 
 /// What may be borrowed from each callable's inputs, in the order of the callables.
-pub fn reports_of(
+pub fn borrowings_of(
     alloc: Global,
     modules: &[Module],
     order: &[usize],
 ) -> Result<Vec<CallableReport>, NoMemory>
-    requires order { order.now ≡ walk_order modules.now }
+    requires order { order.now ≡ module_order modules.now }
     requires sound { AreSound modules.now }
     requires names { All HasNamedItems modules.now }
-    ensures { IfOk result (λ reports. AreReports modules.now reports.items) }
+    ensures { IfOk result (λ borrowings. AreBorrowings modules.now borrowings.items) }
 {
-    let mut reports = Vec::new(alloc);
+    let mut borrowings = Vec::new(alloc);
     for number in order {
-        push_number(alloc, &mut reports, modules, *number)?;
+        push_number(alloc, &mut borrowings, modules, *number)?;
     }
-    Ok(reports)
+    Ok(borrowings)
 }

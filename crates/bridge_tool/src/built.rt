@@ -4,7 +4,7 @@ ghost use Rattle.std.specs.Prelude.{◌≡◌, ◌↔◌, [], IsTrue, All};
 ghost use Rattle.bridge_decl.specs.declared.types.TypeName.{out-TypeName};
 ghost use Rattle.bridge_read.specs.forms.Attrs.{no_attrs};
 ghost use Rattle.bridge_read.specs.forms.Docs.{no_docs};
-ghost use Rattle.bridge_tool.specs.Built.{AreBuilt, IsBorrow, IsBuiltBorrow, IsBuiltItem, IsBuiltMethod, IsBuiltModule, IsBuiltOpaque, IsBuiltParam, IsBuiltReceiver, IsBuiltReturn, IsBuiltSelf, IsBuiltSignature, IsBuiltType, IsGiven, IsNamed, IsPassed, IsPlain, IsReferenceTo, one_segment};
+ghost use Rattle.bridge_tool.specs.Built.{AreBuilt, IsBorrow, IsBuiltBorrow, IsBuiltItem, IsBuiltMethod, IsBuiltModule, IsBuiltOpaque, IsBuiltParam, IsBuiltReceiver, IsBuiltReturn, IsBuiltSelf, IsBuiltSignature, IsBuiltType, IsGiven, IsNamed, IsPassed, IsPlainPath, IsReferenceTo, one_segment};
 
 use bridge_ast::{
     Attrs, Docs, Item, Lifetime, Method, Module, Mutability, OpaqueType, Param, PathType,
@@ -56,7 +56,7 @@ fn is_borrow(lifetime: &Lifetime, mutability: &Mutability) -> bool
 
 /// Whether the type is named by a path without lifetimes.
 fn is_plain(ty: &TypeName) -> bool
-    ensures { IsTrue result ↔ IsPlain (out-TypeName ty.now) }
+    ensures { IsTrue result ↔ IsPlainPath (out-TypeName ty.now) }
 {
     match ty {
         TypeName::Named(path) => path.lifetimes.is_empty(),

@@ -7,7 +7,8 @@ use bridge_outside::{Printer, Sink, SinkFault, finish, put_text};
 use bridge_read::InputKind;
 
 fn put_pointer<K: Sink>(sink: &mut K, out: &mut Printer, pointer: &str)
-    ensures { Prints K.taken K.faults sink.old out.old sink.new out.new (at_pointer pointer.now) }
+    ensures { Prints (K.state sink.old) out.old (K.state sink.new) out.new
+        (at_pointer pointer.now) }
 {
     put_text(sink, out, " at \"");
     put_text(sink, out, pointer);
@@ -16,7 +17,8 @@ fn put_pointer<K: Sink>(sink: &mut K, out: &mut Printer, pointer: &str)
 
 /// Where a fault stands, after its kind.
 fn put_fault_place<K: Sink>(sink: &mut K, out: &mut Printer, kind: InputKind, pointer: &str)
-    ensures { Prints K.taken K.faults sink.old out.old sink.new out.new (fault_place kind pointer.now) }
+    ensures { Prints (K.state sink.old) out.old (K.state sink.new) out.new
+        (fault_place kind pointer.now) }
 {
     match kind {
         InputKind::NotJson => {}
@@ -28,7 +30,7 @@ fn put_fault_place<K: Sink>(sink: &mut K, out: &mut Printer, kind: InputKind, po
 ///
 /// `Failed` where a write failed, `NoMemory` where a write wanted memory: then a first part of the line is written.
 pub fn print_fault<K: Sink>(sink: &mut K, kind: InputKind, pointer: &str) -> Result<(), SinkFault>
-    ensures { Delivers K.taken K.faults sink.old sink.new (fault_line kind pointer.now) result }
+    ensures { Delivers (K.state sink.old) (K.state sink.new) (fault_line kind pointer.now) result }
 {
     let mut out = Printer::new();
     put_text(sink, &mut out, "input: ");

@@ -1,7 +1,7 @@
 //! From the bytes of an input to the verdict on them.
 
 ghost use Rattle.std.specs.Prelude.{IfOk};
-ghost use Rattle.bridge_tool.specs.Judging.{Judges, JudgesModules};
+ghost use Rattle.bridge_tool.specs.inside.Judging.{Judges, JudgesModules};
 
 use crate::built::is_built;
 use crate::verdict::Verdict;

@@ -1,28 +1,57 @@
-//! Checks the declarations of a foreign interface and prints what borrows what: `run` over any source and any sink.
+//! What the value that a method returns may borrow, for each method of the declarations of a foreign interface.
+//!
+//! ```rust
+//! impl O {
+//!     fn pick<'a, 'b: 'a>(&'a self, y: &'b O) -> &'a O;
+//! }
+//! ```
+//!
+//! What `pick` returns lives for `'a`, the lifetime number 0 of the method. It may be a part of whatever lives at least as long:
+//! of the receiver, which is borrowed for `'a`, and of `y`, which is borrowed for `'b`, since by the bound `'b: 'a` the lifetime `'b`
+//! outlives `'a`. A caller in a language without lifetimes has to keep both alive as long as the returned value, so a wrapper of it gets
+//! an edge to each. `run` reads the declaration as JSON (`read_input`, docs/INPUT.md) and prints its page:
+//!
+//! ```text
+//! callable O::pick
+//!   lifetime 0 a: this, y
+//!   edges: opaque this, opaque y
+//! ok 1
+//! ```
+//!
+//! `run` goes from bytes to text in four steps, each a module with one public call:
+//!
+//! 1. **The verdict** (`judge`): the bytes spell declarations, or they have a first fault, or they spell a form that isn't built yet. In
+//!    the last two cases one line is printed (`decline`), and the status is 2.
+//! 2. **The rules** (`rules`): every name, path and lifetime is tested, module by module (`order`). Were `y` a `&'b Q`, the path `Q`
+//!    would break the rule `UnresolvedPath` at the place `O::pick`. All broken rules are told, each in a report (`lines`): status 1.
+//! 3. **The borrowings** (`borrow`): where no rule is broken, the inputs of each method are its leaves, `this` and `y`, each with the
+//!    lifetime that it carries. Under each lifetime that the return names, `'a`, those are listed that carry it or one that outlives it.
+//! 4. **The page** (`page`) is printed: status 0. It stands before its first byte is written.
+//!
+//! What a run promises is the contract of `run`, in six clauses: the headline (0 exactly where no rule is broken, with exactly the
+//! page; else 1 with the reports), completeness (the bytes settle the status, but for want of memory), what each status says, and that it
+//! reads nothing where the words are no command, never reads past what it needs, and leaves the end of the source as it was.
+//! `what_statuses_say` states what follows from the third, status by status.
 #![tactic(auto)]
 
 mod borrow;
+mod borrowing;
 mod built;
 mod declarations;
 mod decline;
-mod environment;
 mod faults;
-mod index;
 mod judge;
 mod lines;
+mod order;
 mod page;
 mod program;
-mod report;
 mod rules;
 mod status;
-#[cfg(test)]
-mod tests;
 mod verdict;
-mod walk;
 
 pub use bridge_outside::{
     Failed, MemSink, MemSource, PlainSink, PlainSource, Sink, SinkFault, Source, StdSink, StdSource,
 };
 pub use bridge_read::{Input, InputFault, InputKind, read_input};
-pub use program::run;
+pub use program::{run, what_statuses_say};
 pub use status::Status;

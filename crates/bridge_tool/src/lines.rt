@@ -2,9 +2,10 @@
 
 ghost use Rattle.std.specs.Prelude.{◌≡◌, ◌≤◌, ◌++◌, true, false, List, ℕ, [], map, length, codes, option_map};
 ghost use Rattle.std.specs.List.{flat_map, join_by};
-ghost use Rattle.bridge_tool.specs.Lines.{after, arg_of, item_segments, lines, method_segments, place_text, report_text, reported, root_text, rule_name, rule_of, text_around};
+ghost use Rattle.bridge_tool.specs.inside.TextParts.{segment_after, root_text};
+ghost use Rattle.bridge_tool.specs.Lines.{arg_of, item_segments, lines, method_segments, report_place_text, report_text, reported, rule_name, rule_of, text_around};
 ghost use Rattle.bridge_outside.specs.Printing.{Prints, Delivers, separator_at};
-ghost use Rattle.bridge_tool.specs.Reports.{check_of, tested_of};
+ghost use Rattle.bridge_tool.specs.inside.Reporting.{check_of, tested_of};
 
 use crate::faults::{At, Fault, Report};
 use bridge_ast::Text;
@@ -12,7 +13,8 @@ use bridge_outside::{Printer, Sink, SinkFault, finish, put_number, put_separator
 
 /// A segment, after what stands before it in its list.
 fn put_segment<K: Sink>(sink: &mut K, out: &mut Printer, place: usize, segment: &Text)
-    ensures { Prints K.taken K.faults sink.old out.old sink.new out.new (separator_at (codes "::") place ++ segment.now) }
+    ensures { Prints (K.state sink.old) out.old (K.state sink.new) out.new
+        (separator_at (codes "::") place ++ segment.now) }
 {
     put_separator(sink, out, "::", place);
     put_text(sink, out, segment.as_str());
@@ -20,7 +22,8 @@ fn put_segment<K: Sink>(sink: &mut K, out: &mut Printer, place: usize, segment: 
 
 /// Segments with `::` between each two.
 fn put_segments<K: Sink>(sink: &mut K, out: &mut Printer, segments: &[Text])
-    ensures { Prints K.taken K.faults sink.old out.old sink.new out.new (join_by (λ s. s) (codes "::") segments.now) }
+    ensures { Prints (K.state sink.old) out.old (K.state sink.new) out.new
+        (join_by (λ s. s) (codes "::") segments.now) }
 {
     for (place, segment) in segments.iter().enumerate() {
         put_segment(sink, out, place, segment);
@@ -29,7 +32,8 @@ fn put_segments<K: Sink>(sink: &mut K, out: &mut Printer, segments: &[Text])
 
 /// The name of an item after so many segments. An empty one is left out.
 fn put_item<K: Sink>(sink: &mut K, out: &mut Printer, before: usize, item: &Text)
-    ensures { Prints K.taken K.faults sink.old out.old sink.new out.new (after before (item_segments item.now)) }
+    ensures { Prints (K.state sink.old) out.old (K.state sink.new) out.new
+        (segment_after before (item_segments item.now)) }
 {
     if !item.as_str().is_empty() {
         put_segment(sink, out, before, item);
@@ -38,7 +42,8 @@ fn put_item<K: Sink>(sink: &mut K, out: &mut Printer, before: usize, item: &Text
 
 /// The name of a method after so many segments, where there is a method.
 fn put_method<K: Sink>(sink: &mut K, out: &mut Printer, before: usize, method: Option<&Text>)
-    ensures { Prints K.taken K.faults sink.old out.old sink.new out.new (after before (method_segments (option_map (λ m. m.now) method.entry))) }
+    ensures { Prints (K.state sink.old) out.old (K.state sink.new) out.new
+        (segment_after before (method_segments (option_map (λ m. m.now) method.entry))) }
 {
     if let Some(name) = method {
         put_segment(sink, out, before, name);
@@ -47,7 +52,7 @@ fn put_method<K: Sink>(sink: &mut K, out: &mut Printer, before: usize, method: O
 
 /// The name of the root, where a place has no segment.
 fn put_root<K: Sink>(sink: &mut K, out: &mut Printer, is_root: bool)
-    ensures { Prints K.taken K.faults sink.old out.old sink.new out.new (root_text is_root) }
+    ensures { Prints (K.state sink.old) out.old (K.state sink.new) out.new (root_text is_root) }
 {
     if is_root {
         put_text(sink, out, "root module");
@@ -56,8 +61,11 @@ fn put_root<K: Sink>(sink: &mut K, out: &mut Printer, is_root: bool)
 
 /// Whether a place has no segment.
 fn is_root(at: At<'_>) -> bool
-    ensures root { result ≡ true → length ((at.entry.path.now ++ item_segments at.entry.item.now) ++ method_segments (option_map (λ m. m.now) at.entry.method)) ≡ 0 }
-    ensures other { result ≡ false → 1 ≤ length ((at.entry.path.now ++ item_segments at.entry.item.now) ++ method_segments (option_map (λ m. m.now) at.entry.method)) }
+    ensures root { result ≡ true → length ((at.entry.path.now ++ item_segments at.entry.item.now)
+        ++ method_segments (option_map (λ m. m.now) at.entry.method)) ≡ 0 }
+    ensures other { result ≡ false → 1 ≤ length
+        ((at.entry.path.now ++ item_segments at.entry.item.now) ++ method_segments
+        (option_map (λ m. m.now) at.entry.method)) }
 {
     match (at.path, at.method) {
         ([], None) => at.item.as_str().is_empty(),
@@ -67,7 +75,8 @@ fn is_root(at: At<'_>) -> bool
 
 /// How many segments stand before the method of a place; any above none are counted as one.
 fn segments_before(path: &[Text], item: &Text) -> usize
-    ensures { (segments : List (List ℕ)) → after result segments ≡ after (length (path.now ++ item_segments item.now)) segments }
+    ensures { (segments : List (List ℕ)) → segment_after result segments ≡ segment_after
+        (length (path.now ++ item_segments item.now)) segments }
 {
     if item.as_str().is_empty() {
         path.len()
@@ -77,8 +86,12 @@ fn segments_before(path: &[Text], item: &Text) -> usize
 }
 
 fn put_place<K: Sink>(sink: &mut K, out: &mut Printer, at: At<'_>)
-    ensures { Prints K.taken K.faults sink.old out.old sink.new out.new
-        (place_text (record { path = at.entry.path.now; item = at.entry.item.now; method = option_map (λ m. m.now) at.entry.method })) }
+    ensures { Prints (K.state sink.old) out.old (K.state sink.new) out.new
+        (report_place_text (record {
+          path = at.entry.path.now;
+          item = at.entry.item.now;
+          method = option_map (λ m. m.now) at.entry.method;
+        })) }
 {
     put_segments(sink, out, at.path);
     put_item(sink, out, at.path.len(), at.item);
@@ -99,7 +112,7 @@ fn rule_name_of(fault: &Fault<'_>) -> &'static str
 
 /// The text of the rule that a fault breaks.
 fn put_fault<K: Sink>(sink: &mut K, out: &mut Printer, fault: &Fault<'_>)
-    ensures { Prints K.taken K.faults sink.old out.old sink.new out.new
+    ensures { Prints (K.state sink.old) out.old (K.state sink.new) out.new
         (text_around (rule_of (check_of fault.entry.now)) (arg_of (check_of fault.entry.now))) }
 {
     match fault {
@@ -121,7 +134,8 @@ fn put_fault<K: Sink>(sink: &mut K, out: &mut Printer, fault: &Fault<'_>)
 
 /// The two lines of a report.
 fn put_report<K: Sink>(sink: &mut K, out: &mut Printer, report: &Report<'_>)
-    ensures { Prints K.taken K.faults sink.old out.old sink.new out.new (report_text (reported (tested_of report.entry.now))) }
+    ensures { Prints (K.state sink.old) out.old (K.state sink.new) out.new
+        (report_text (reported (tested_of report.entry.now))) }
 {
     put_text(sink, out, "Lowering error in ");
     put_place(sink, out, report.at);
@@ -134,7 +148,7 @@ fn put_report<K: Sink>(sink: &mut K, out: &mut Printer, report: &Report<'_>)
 
 /// All reports.
 fn put_reports<K: Sink>(sink: &mut K, out: &mut Printer, reports: &[Report<'_>])
-    ensures { Prints K.taken K.faults sink.old out.old sink.new out.new
+    ensures { Prints (K.state sink.old) out.old (K.state sink.new) out.new
         (flat_map (λ report. report_text (reported (tested_of report))) reports.entry.now) }
 {
     for report in reports {
@@ -146,7 +160,8 @@ fn put_reports<K: Sink>(sink: &mut K, out: &mut Printer, reports: &[Report<'_>])
 ///
 /// `Failed` where a write failed, `NoMemory` where a write wanted memory: then a first part of the lines is written.
 pub fn print_lines<K: Sink>(sink: &mut K, reports: &[Report<'_>]) -> Result<(), SinkFault>
-    ensures { Delivers K.taken K.faults sink.old sink.new (lines (map reported (map tested_of reports.entry.now))) result }
+    ensures { Delivers (K.state sink.old) (K.state sink.new)
+        (lines (map reported (map tested_of reports.entry.now))) result }
 {
     let mut out = Printer::new();
     put_reports(sink, &mut out, reports);

@@ -1,28 +1,32 @@
 //! The whole program over any source and any sink.
 
-ghost use Rattle.std.specs.Prelude.{◌≡◌, ◌≢◌, ◌≤◌, ◌<◌, ◌+◌, ◌^◌, ◌↔◌, ◌⊎◌, ℕ, List, length, map, IfSome, IsTrue};
+ghost use Rattle.std.specs.Prelude.{◌≡◌, ◌≤◌, ◌+◌, ◌^◌, ◌↔◌, ℕ, List, String, length, map, IsTrue};
+ghost use Rattle.std.specs.declared.alloc.Global.{Global as Allocator};
 ghost use Rattle.bridge_decl.specs.declared.modules.Module.{Module as Declared};
 ghost use Rattle.bridge_ast.specs.Sound.{AreSound};
-ghost use Rattle.bridge_tool.specs.Judging.{Judges};
+ghost use Rattle.bridge_tool.specs.inside.Judging.{Judges};
 ghost use Rattle.bridge_tool.specs.Breaks.{BreakNothing};
 ghost use Rattle.bridge_tool.specs.Checks.{tested_in};
 ghost use Rattle.bridge_tool.specs.Chosen.{Chosen};
-ghost use Rattle.bridge_tool.specs.Headline.{Headline, IsComplete, IsUndisturbed};
-ghost use Rattle.bridge_outside.specs.Outside.{Rose, left_after};
-ghost use Rattle.bridge_tool.specs.Reports.{TestFails, tested_of};
-ghost use Rattle.bridge_tool.specs.Walking.{walk_order};
-ghost use Rattle.bridge_tool.specs.Running.{Accepts, Answered, AreCommand, Declines, IsUnfinished, Ran, Refuses, Spells, Told, ended_with, world};
+ghost use Rattle.bridge_tool.specs.Following.{Follows};
+ghost use Rattle.bridge_tool.specs.Headline.{Headline, IsComplete};
+ghost use Rattle.bridge_outside.specs.Outside.{left_after};
+ghost use Rattle.bridge_tool.specs.Checks.{TestFails};
+ghost use Rattle.bridge_tool.specs.inside.Reporting.{tested_of};
+ghost use Rattle.bridge_tool.specs.Order.{module_order};
+ghost use Rattle.bridge_tool.specs.Running.{Answers, AreCommand, Ran, Says, World, world};
+ghost use Rattle.bridge_tool.specs.inside.Answering.{Printed, TellsOf, ended_with};
 
-use crate::borrow::reports_of;
+use crate::borrow::borrowings_of;
 use crate::decline::print_fault;
 use crate::faults::Report;
 use crate::judge::judge;
 use crate::lines::print_lines;
+use crate::order::module_order;
 use crate::page::print_page;
 use crate::rules::faults_in;
 use crate::status::Status;
 use crate::verdict::Verdict;
-use crate::walk::walk_order;
 use bridge_ast::{Env, Module};
 use bridge_outside::{ReadFault, Sink, SinkFault, Source, print_line, read_all};
 use std::alloc::{AllocError, Global};
@@ -51,14 +55,14 @@ fn ended(verdict: Status, printed: Result<(), SinkFault>) -> Status
 
 /// Prints the page of declarations that break no rule.
 fn accept<K: Sink>(alloc: Global, sink: &mut K, modules: &[Module], order: &[usize]) -> Status
-    requires order { order.now ≡ walk_order modules.now }
+    requires order { order.now ≡ module_order modules.now }
     requires sound { AreSound modules.now }
     requires keep { BreakNothing modules.now }
-    ensures { Told modules.now (K.taken sink.old) (K.taken sink.new) (K.faults sink.old) (K.faults sink.new) result }
+    ensures { Printed (TellsOf modules.now) (K.state sink.old) (K.state sink.new) result }
 {
-    match reports_of(alloc, modules, order) {
-        Ok(reports) => {
-            let printed = print_page(sink, modules, order, &reports);
+    match borrowings_of(alloc, modules, order) {
+        Ok(borrowings) => {
+            let printed = print_page(sink, modules, order, &borrowings);
             ended(Status::Accepted, printed)
         }
         Err(AllocError) => Status::NoMemory,
@@ -68,8 +72,9 @@ fn accept<K: Sink>(alloc: Global, sink: &mut K, modules: &[Module], order: &[usi
 /// Prints the reports of declarations that have these faults.
 fn refuse<K: Sink>(sink: &mut K, faults: &[Report<'_>]) -> Status
     requires { 1 ≤ length faults.now }
-    ensures { (modules : List Declared) → Chosen (TestFails modules) (tested_in modules) (map tested_of faults.now)
-        → Told modules (K.taken sink.old) (K.taken sink.new) (K.faults sink.old) (K.faults sink.new) result }
+    ensures { (modules : List Declared) → Chosen (TestFails modules) (tested_in modules)
+        (map tested_of faults.now)
+        → Printed (TellsOf modules) (K.state sink.old) (K.state sink.new) result }
 {
     let printed = print_lines(sink, faults);
     ended(Status::Refused, printed)
@@ -83,10 +88,11 @@ fn tell_of<K: Sink>(
     order: &[usize],
     faults: &[Report<'_>],
 ) -> Status
-    requires order { order.now ≡ walk_order modules.now }
+    requires order { order.now ≡ module_order modules.now }
     requires sound { AreSound modules.now }
-    requires faults { Chosen (TestFails modules.now) (tested_in modules.now) (map tested_of faults.now) }
-    ensures { Told modules.now (K.taken sink.old) (K.taken sink.new) (K.faults sink.old) (K.faults sink.new) result }
+    requires faults { Chosen (TestFails modules.now) (tested_in modules.now)
+        (map tested_of faults.now) }
+    ensures { Printed (TellsOf modules.now) (K.state sink.old) (K.state sink.new) result }
 {
     if faults.is_empty() {
         accept(alloc, sink, modules, order)
@@ -97,8 +103,8 @@ fn tell_of<K: Sink>(
 
 /// The same, of the modules in the order in which they are gone through.
 fn tell_in<K: Sink>(alloc: Global, sink: &mut K, env: &Env, order: &[usize]) -> Status
-    requires { order.now ≡ walk_order env.now }
-    ensures { Told env.now (K.taken sink.old) (K.taken sink.new) (K.faults sink.old) (K.faults sink.new) result }
+    requires { order.now ≡ module_order env.now }
+    ensures { Printed (TellsOf env.now) (K.state sink.old) (K.state sink.new) result }
 {
     match faults_in(alloc, env, order) {
         Ok(faults) => tell_of(alloc, sink, env.modules(), order, &faults),
@@ -108,9 +114,9 @@ fn tell_in<K: Sink>(alloc: Global, sink: &mut K, env: &Env, order: &[usize]) -> 
 
 /// Tests the rules of the declarations of an environment, and prints their page or their reports.
 pub fn tell<K: Sink>(alloc: Global, sink: &mut K, env: &Env) -> Status
-    ensures { Told env.now (K.taken sink.old) (K.taken sink.new) (K.faults sink.old) (K.faults sink.new) result }
+    ensures { Printed (TellsOf env.now) (K.state sink.old) (K.state sink.new) result }
 {
-    match walk_order(alloc, env.modules()) {
+    match module_order(alloc, env.modules()) {
         Ok(order) => tell_in(alloc, sink, env, &order),
         Err(AllocError) => Status::NoMemory,
     }
@@ -119,7 +125,7 @@ pub fn tell<K: Sink>(alloc: Global, sink: &mut K, env: &Env) -> Status
 /// Prints what a verdict says: the page, the reports, or one line.
 fn answer<K: Sink>(alloc: Global, sink: &mut K, verdict: &Verdict) -> Status
     ensures { (bytes : List ℕ) → Judges bytes verdict.now
-        → Answered bytes (K.taken sink.old) (K.taken sink.new) (K.faults sink.old) (K.faults sink.new) result }
+        → Printed (Answers bytes) (K.state sink.old) (K.state sink.new) result }
 {
     match verdict {
         Verdict::Declarations(env) => tell(alloc, sink, env),
@@ -136,7 +142,7 @@ fn answer<K: Sink>(alloc: Global, sink: &mut K, verdict: &Verdict) -> Status
 
 /// Checks the input that was read, and prints what it is.
 fn check<K: Sink>(alloc: Global, bytes: &[u8], sink: &mut K) -> Status
-    ensures { Answered bytes.now (K.taken sink.old) (K.taken sink.new) (K.faults sink.old) (K.faults sink.new) result }
+    ensures { Printed (Answers bytes.now) (K.state sink.old) (K.state sink.new) result }
 {
     match judge(alloc, bytes) {
         Ok(verdict) => answer(alloc, sink, &verdict),
@@ -151,10 +157,10 @@ fn run_to_status<S: Source, K: Sink>(
     source: &mut S,
     sink: &mut K,
 ) -> Status
-    ensures ran { Ran words.now (world (S.left source.old) (S.faults source.old) (K.taken sink.old) (K.faults sink.old))
-        (world (S.left source.new) (S.faults source.new) (K.taken sink.new) (K.faults sink.new)) result }
-    ensures few_reads { S.calls source.new ≤ S.calls source.old + (2 ^ 26 + 2) }
-    ensures rest { (n : ℕ) × (S.left source.new ≡ left_after n (S.left source.old)) }
+    ensures says { Says words.now (world (S.state source.old) (K.state sink.old))
+        (world (S.state source.new) (K.state sink.new)) result }
+    ensures few_reads { (S.state source.new).calls ≤ (S.state source.old).calls + (2 ^ 26 + 2) }
+    ensures rest { (n : ℕ) × ((S.state source.new).left ≡ left_after n (S.state source.old).left) }
     ensures untouched { result ≡ Status.BadWords → source.new ≡ source.old }
 {
     if !are_command(words) {
@@ -178,53 +184,26 @@ fn run_to_status<S: Source, K: Sink>(
 pub fn run<S: Source, K: Sink>(alloc: Global, words: &[String], source: &mut S, sink: &mut K) -> u8
     // Where the source's bytes are told, at most 2^26, and spell declarations, and nothing fails: it ends with 0 exactly where no
     // declaration breaks a rule, and prints their page; else it ends with 1, and prints reports of the broken rules.
-    ensures headline { (had : List ℕ) (modules : List Declared) → IsUndisturbed words.now
-        (world (S.left source.old) (S.faults source.old) (K.taken sink.old) (K.faults sink.old))
-        (world (S.left source.new) (S.faults source.new) (K.taken sink.new) (K.faults sink.new)) had
-        → length had ≤ 2 ^ 26 → Spells had modules → result ≢ 5 → Headline modules
-        (world (S.left source.old) (S.faults source.old) (K.taken sink.old) (K.faults sink.old))
-        (world (S.left source.new) (S.faults source.new) (K.taken sink.new) (K.faults sink.new)) result }
-    // The same, with want of memory as the one other answer, and 2 where the bytes spell no declarations.
-    ensures complete { (had : List ℕ) → IsUndisturbed words.now
-        (world (S.left source.old) (S.faults source.old) (K.taken sink.old) (K.faults sink.old))
-        (world (S.left source.new) (S.faults source.new) (K.taken sink.new) (K.faults sink.new)) had
-        → length had ≤ 2 ^ 26 → IsComplete had result }
-    // 0: the bytes that the source had spell declarations that break no rule, and the sink took exactly their page.
-    ensures accepted { result ≡ 0 → Accepts
-        (world (S.left source.old) (S.faults source.old) (K.taken sink.old) (K.faults sink.old))
-        (world (S.left source.new) (S.faults source.new) (K.taken sink.new) (K.faults sink.new)) }
-    // 1: they spell declarations that break a rule, and the sink took exactly the lines of their reports: at least one, each of
-    // a broken rule at its place, and each broken rule at its place has one.
-    ensures refused { result ≡ 1 → Refuses
-        (world (S.left source.old) (S.faults source.old) (K.taken sink.old) (K.faults sink.old))
-        (world (S.left source.new) (S.faults source.new) (K.taken sink.new) (K.faults sink.new)) }
-    // 2: the bytes that the source had spell no declarations, and the sink took exactly the line that says so.
-    ensures declined { result ≡ 2 → Declines
-        (world (S.left source.old) (S.faults source.old) (K.taken sink.old) (K.faults sink.old))
-        (world (S.left source.new) (S.faults source.new) (K.taken sink.new) (K.faults sink.new)) }
-    ensures read_failed { result ≡ 3 → Rose (S.faults source.old) (S.faults source.new) }
-    ensures write_failed { result ≡ 4 → Rose (K.faults sink.old) (K.faults sink.new) }
-    // 4 and 5: the sink took nothing, or a first part of the text that answers the bytes with another status.
-    ensures cut_off { (result ≡ 4) ⊎ (result ≡ 5) → IsUnfinished
-        (world (S.left source.old) (S.faults source.old) (K.taken sink.old) (K.faults sink.old))
-        (world (S.left source.new) (S.faults source.new) (K.taken sink.new) (K.faults sink.new)) }
-    ensures bad_words { (result ≡ 6) ↔ ¬ (AreCommand words.now) }
-    ensures too_long { result ≡ 7 → IfSome (S.left source.old) (λ had. 2 ^ 26 < length had) }
-    // More than 2^26 bytes are always 7, where they are told and nothing fails, or want of memory.
-    ensures always_too_long { (had : List ℕ) → IsUndisturbed words.now
-        (world (S.left source.old) (S.faults source.old) (K.taken sink.old) (K.faults sink.old))
-        (world (S.left source.new) (S.faults source.new) (K.taken sink.new) (K.faults sink.new)) had
-        → 2 ^ 26 < length had → (result ≡ 7) ⊎ (result ≡ 5) }
-    // Only a failed read, or want of memory, leaves the source's count of faults raised, and likewise for the sink.
-    ensures reads_steady { result ≢ 3 → result ≢ 5 → S.faults source.new ≡ S.faults source.old }
-    ensures writes_steady { result ≢ 4 → result ≢ 5 → K.faults sink.new ≡ K.faults sink.old }
-    ensures unwritten { (result ≡ 3) ⊎ (result ≡ 6) ⊎ (result ≡ 7) → K.taken sink.new ≡ K.taken sink.old }
+    ensures headline { Headline words.now (world (S.state source.old) (K.state sink.old))
+        (world (S.state source.new) (K.state sink.new)) result }
+    // Where the bytes are told and nothing fails: 0, 1, 2 and 7 each come exactly where the bytes say so, but for want of memory.
+    ensures complete { IsComplete words.now (world (S.state source.old) (K.state sink.old))
+        (world (S.state source.new) (K.state sink.new)) result }
+    // What each status says of the words, of what was read and of what was written.
+    ensures says { Ran words.now (world (S.state source.old) (K.state sink.old))
+        (world (S.state source.new) (K.state sink.new)) result }
     ensures unread { result ≡ 6 → source.new ≡ source.old }
     // Also where nothing is told of the bytes.
-    ensures few_reads { S.calls source.new ≤ S.calls source.old + (2 ^ 26 + 2) }
+    ensures few_reads { (S.state source.new).calls ≤ (S.state source.old).calls + (2 ^ 26 + 2) }
     // What the source has left is the end of what it had, whatever the status.
-    ensures rest { (n : ℕ) × (S.left source.new ≡ left_after n (S.left source.old)) }
-    ensures at_most_seven { result ≤ 7 }
+    ensures rest { (n : ℕ) × ((S.state source.new).left ≡ left_after n (S.state source.old).left) }
 {
     run_to_status(alloc, words, source, sink).code()
 }
+
+/// What the table of statuses says of each number that a run ends with. As 6 comes exactly where the words are no command, and
+/// nothing is written with 3, 6 and 7.
+pub fn what_statuses_say()
+    ensures { (words : List (String Allocator)) (old new : World) (code : ℕ)
+        → Ran words old new code → Follows words old new code }
+{}

@@ -4,21 +4,21 @@ ghost use Rattle.std.specs.Prelude.{◌≡◌, ◌<◌, ℕ, List, [], ◌∷◌
 ghost use Rattle.std.specs.List.{flat_map};
 ghost use Rattle.bridge_decl.specs.declared.modules.Module.{Module as Declared};
 ghost use Rattle.bridge_decl.specs.declared.types.TypeName.{out-TypeName};
-ghost use Rattle.bridge_decl.specs.Lifetimes.{lifetime_names, IsSoundEnvironment};
+ghost use Rattle.bridge_decl.specs.Lifetimes.{lifetime_names};
 ghost use Rattle.bridge_tool.specs.Checks.{name, path, lifetime, Fails, type_paths, type_lifetimes, lifetime_name, method_names, method_paths, method_lifetimes, receiver_paths, receiver_lifetimes, returned_paths, returned_lifetimes, tested_in_method, tested_in_item, tested_in_module, tested_in, tested_at_number};
-ghost use Rattle.bridge_tool.specs.Index.{Indexes};
+ghost use Rattle.bridge_decl.specs.NameIndex.{Indexes};
 ghost use Rattle.bridge_tool.specs.Chosen.{Chosen};
-ghost use Rattle.bridge_tool.specs.Walking.{walk_order};
-ghost use Rattle.bridge_tool.specs.Reports.{tested_at, tested_of, TestFails, Reports};
-ghost use Rattle.bridge_tool.specs.Methods.{HasSoundMethods, HasSoundItems};
+ghost use Rattle.bridge_tool.specs.Order.{module_order};
+ghost use Rattle.bridge_tool.specs.inside.Reporting.{tested_at, tested_of, Reports};
+ghost use Rattle.bridge_tool.specs.Checks.{TestFails};
 
 use crate::declarations::{methods, name_of, receiver_lifetime, written_lifetime, written_path};
 use crate::faults::{At, Fault, Report};
-use crate::index::{NameIndex, index_lifetimes};
 use bridge_ast::{
     Env, Item, Lifetime, LifetimeEnv, LifetimeNode, Method, Module, NoMemory, Param, PathType,
     SelfParam, Text, TypeName, is_ident,
 };
+use bridge_decl::{NameIndex, index_lifetimes};
 use sqlite_items::at;
 use std::alloc::Global;
 
@@ -35,7 +35,9 @@ pub enum Rule {
 
 /// Tests the rule BadIdent of a name.
 fn test_name<'a>(reports: &mut Vec<Report<'a>>, at: At<'a>, ident: &'a Text) -> Result<(), NoMemory>
-    ensures { (modules : List Declared) → OnOk result (Reports modules (tested_at at.entry (name ident.now) ∷ []) reports.old.items reports.new.items) }
+    ensures { (modules : List Declared) → OnOk result
+        (Reports modules (tested_at at.entry (name ident.now) ∷ []) reports.old.items
+        reports.new.items) }
 {
     if !is_ident(ident.as_str()) {
         reports.push(Report {
@@ -49,7 +51,8 @@ fn test_name<'a>(reports: &mut Vec<Report<'a>>, at: At<'a>, ident: &'a Text) -> 
 /// Whether the path names no struct, opaque or enum, read in the module of that number.
 fn names_nothing(env: &Env, number: usize, named: &PathType) -> bool
     requires { number < length env.now }
-    ensures { MatchBool result (Fails env.now number (path named.now)) (¬ (Fails env.now number (path named.now))) }
+    ensures { MatchBool result (Fails env.now number (path named.now))
+        (¬ (Fails env.now number (path named.now))) }
 {
     match env.resolve(number, named) {
         Some(_) => false,
@@ -65,7 +68,8 @@ fn test_path<'a>(
     named: &'a PathType,
 ) -> Result<(), NoMemory>
     requires { at.number < length env.now }
-    ensures { OnOk result (Reports env.now (tested_at at.entry (path named.now) ∷ []) reports.old.items reports.new.items) }
+    ensures { OnOk result (Reports env.now (tested_at at.entry (path named.now) ∷ [])
+        reports.old.items reports.new.items) }
 {
     if names_nothing(env, at.number, named) {
         reports.push(Report {
@@ -77,8 +81,9 @@ fn test_path<'a>(
 }
 
 /// Whether the environment with these names declares the lifetime.
-fn declares(names: &NameIndex, used: &Text) -> bool
-    ensures { (all : List (List ℕ)) → Indexes names.now all → MatchBool result (Contains all used.now) (¬ (Contains all used.now)) }
+fn declares(names: &NameIndex<usize>, used: &Text) -> bool
+    ensures { (all : List (List ℕ)) → Indexes names.now all
+        → MatchBool result (Contains all used.now) (¬ (Contains all used.now)) }
 {
     names.contains_key(used)
 }
@@ -87,12 +92,13 @@ fn declares(names: &NameIndex, used: &Text) -> bool
 fn test_lifetime<'a>(
     reports: &mut Vec<Report<'a>>,
     at: At<'a>,
-    names: &NameIndex,
+    names: &NameIndex<usize>,
     env: &'a LifetimeEnv,
     used: &'a Lifetime,
 ) -> Result<(), NoMemory>
     ensures { (all : List Declared) → Indexes names.now (lifetime_names env.now)
-        → OnOk result (Reports all (map (λ l. tested_at at.entry (lifetime env.now l)) (lifetime_name used.now)) reports.old.items reports.new.items) }
+        → OnOk result (Reports all (map (λ l. tested_at at.entry (lifetime env.now l))
+        (lifetime_name used.now)) reports.old.items reports.new.items) }
 {
     if let Lifetime::Named(used) = used {
         if !declares(names, used) {
@@ -110,7 +116,9 @@ fn test_param_names<'a>(
     at: At<'a>,
     params: &'a [Param],
 ) -> Result<(), NoMemory>
-    ensures { (all : List Declared) → OnOk result (Reports all (flat_map (λ param. tested_at at.entry (name param.name) ∷ []) params.now) reports.old.items reports.new.items) }
+    ensures { (all : List Declared) → OnOk result
+        (Reports all (flat_map (λ param. tested_at at.entry (name param.name) ∷ []) params.now)
+        reports.old.items reports.new.items) }
 {
     for param in params {
         test_name(reports, at, &param.name)?;
@@ -123,7 +131,9 @@ fn test_lifetime_names<'a>(
     at: At<'a>,
     nodes: &'a [LifetimeNode],
 ) -> Result<(), NoMemory>
-    ensures { (all : List Declared) → OnOk result (Reports all (flat_map (λ node. tested_at at.entry (name node.name) ∷ []) nodes.now) reports.old.items reports.new.items) }
+    ensures { (all : List Declared) → OnOk result
+        (Reports all (flat_map (λ node. tested_at at.entry (name node.name) ∷ []) nodes.now)
+        reports.old.items reports.new.items) }
 {
     for node in nodes {
         test_name(reports, at, &node.name)?;
@@ -138,7 +148,8 @@ fn test_type_path<'a>(
     ty: &'a TypeName,
 ) -> Result<(), NoMemory>
     requires { at.number < length env.now }
-    ensures { OnOk result (Reports env.now (map (λ p. tested_at at.entry (path p)) (type_paths (out-TypeName ty.now))) reports.old.items reports.new.items) }
+    ensures { OnOk result (Reports env.now (map (λ p. tested_at at.entry (path p))
+        (type_paths (out-TypeName ty.now))) reports.old.items reports.new.items) }
 {
     match written_path(ty) {
         Some(named) => test_path(reports, at, env, named),
@@ -153,7 +164,9 @@ fn test_param_paths<'a>(
     params: &'a [Param],
 ) -> Result<(), NoMemory>
     requires { at.number < length env.now }
-    ensures { OnOk result (Reports env.now (flat_map (λ param. map (λ p. tested_at at.entry (path p)) (type_paths (out-TypeName param.ty))) params.now) reports.old.items reports.new.items) }
+    ensures { OnOk result
+        (Reports env.now (flat_map (λ param. map (λ p. tested_at at.entry (path p))
+        (type_paths (out-TypeName param.ty))) params.now) reports.old.items reports.new.items) }
 {
     for param in params {
         test_type_path(reports, at, env, &param.ty)?;
@@ -164,12 +177,14 @@ fn test_param_paths<'a>(
 fn test_type_lifetime<'a>(
     reports: &mut Vec<Report<'a>>,
     at: At<'a>,
-    names: &NameIndex,
+    names: &NameIndex<usize>,
     env: &'a LifetimeEnv,
     ty: &'a TypeName,
 ) -> Result<(), NoMemory>
     ensures { (all : List Declared) → Indexes names.now (lifetime_names env.now)
-        → OnOk result (Reports all (map (λ l. tested_at at.entry (lifetime env.now l)) (flat_map lifetime_name (type_lifetimes (out-TypeName ty.now)))) reports.old.items reports.new.items) }
+        → OnOk result (Reports all (map (λ l. tested_at at.entry (lifetime env.now l))
+        (flat_map lifetime_name (type_lifetimes (out-TypeName ty.now)))) reports.old.items
+        reports.new.items) }
 {
     match written_lifetime(ty) {
         Some(used) => test_lifetime(reports, at, names, env, used),
@@ -180,12 +195,15 @@ fn test_type_lifetime<'a>(
 fn test_param_lifetimes<'a>(
     reports: &mut Vec<Report<'a>>,
     at: At<'a>,
-    names: &NameIndex,
+    names: &NameIndex<usize>,
     env: &'a LifetimeEnv,
     params: &'a [Param],
 ) -> Result<(), NoMemory>
     ensures { (all : List Declared) → Indexes names.now (lifetime_names env.now)
-        → OnOk result (Reports all (flat_map (λ param. map (λ l. tested_at at.entry (lifetime env.now l)) (flat_map lifetime_name (type_lifetimes (out-TypeName param.ty)))) params.now) reports.old.items reports.new.items) }
+        → OnOk result
+        (Reports all (flat_map (λ param. map (λ l. tested_at at.entry (lifetime env.now l))
+        (flat_map lifetime_name (type_lifetimes (out-TypeName param.ty)))) params.now)
+        reports.old.items reports.new.items) }
 {
     for param in params {
         test_type_lifetime(reports, at, names, env, &param.ty)?;
@@ -199,7 +217,9 @@ fn test_names<'a>(
     at: At<'a>,
     method: &'a Method,
 ) -> Result<(), NoMemory>
-    ensures { (all : List Declared) → OnOk result (Reports all (map (λ n. tested_at at.entry (name n)) (method_names method.now)) reports.old.items reports.new.items) }
+    ensures { (all : List Declared) → OnOk result
+        (Reports all (map (λ n. tested_at at.entry (name n)) (method_names method.now))
+        reports.old.items reports.new.items) }
 {
     test_name(reports, at, &method.name)?;
     test_param_names(reports, at, method.params.as_slice())?;
@@ -213,7 +233,8 @@ fn test_receiver_path<'a>(
     receiver: &'a Option<SelfParam>,
 ) -> Result<(), NoMemory>
     requires { at.number < length env.now }
-    ensures { OnOk result (Reports env.now (map (λ p. tested_at at.entry (path p)) (receiver_paths receiver.now)) reports.old.items reports.new.items) }
+    ensures { OnOk result (Reports env.now (map (λ p. tested_at at.entry (path p))
+        (receiver_paths receiver.now)) reports.old.items reports.new.items) }
 {
     match receiver {
         Some(receiver) => test_path(reports, at, env, &receiver.path_type),
@@ -228,7 +249,8 @@ fn test_returned_path<'a>(
     returned: &'a Option<TypeName>,
 ) -> Result<(), NoMemory>
     requires { at.number < length env.now }
-    ensures { OnOk result (Reports env.now (map (λ p. tested_at at.entry (path p)) (returned_paths returned.now)) reports.old.items reports.new.items) }
+    ensures { OnOk result (Reports env.now (map (λ p. tested_at at.entry (path p))
+        (returned_paths returned.now)) reports.old.items reports.new.items) }
 {
     match returned {
         Some(ty) => test_type_path(reports, at, env, ty),
@@ -244,7 +266,8 @@ fn test_paths<'a>(
     method: &'a Method,
 ) -> Result<(), NoMemory>
     requires { at.number < length env.now }
-    ensures { OnOk result (Reports env.now (map (λ p. tested_at at.entry (path p)) (method_paths method.now)) reports.old.items reports.new.items) }
+    ensures { OnOk result (Reports env.now (map (λ p. tested_at at.entry (path p))
+        (method_paths method.now)) reports.old.items reports.new.items) }
 {
     test_path(reports, at, env, &method.self_type)?;
     test_receiver_path(reports, at, env, &method.self_param)?;
@@ -255,12 +278,14 @@ fn test_paths<'a>(
 fn test_receiver_lifetime<'a>(
     reports: &mut Vec<Report<'a>>,
     at: At<'a>,
-    names: &NameIndex,
+    names: &NameIndex<usize>,
     env: &'a LifetimeEnv,
     receiver: &'a Option<SelfParam>,
 ) -> Result<(), NoMemory>
     ensures { (all : List Declared) → Indexes names.now (lifetime_names env.now)
-        → OnOk result (Reports all (map (λ l. tested_at at.entry (lifetime env.now l)) (flat_map lifetime_name (receiver_lifetimes receiver.now))) reports.old.items reports.new.items) }
+        → OnOk result (Reports all (map (λ l. tested_at at.entry (lifetime env.now l))
+        (flat_map lifetime_name (receiver_lifetimes receiver.now))) reports.old.items
+        reports.new.items) }
 {
     match receiver_lifetime(receiver) {
         Some(used) => test_lifetime(reports, at, names, env, used),
@@ -271,12 +296,14 @@ fn test_receiver_lifetime<'a>(
 fn test_returned_lifetime<'a>(
     reports: &mut Vec<Report<'a>>,
     at: At<'a>,
-    names: &NameIndex,
+    names: &NameIndex<usize>,
     env: &'a LifetimeEnv,
     returned: &'a Option<TypeName>,
 ) -> Result<(), NoMemory>
     ensures { (all : List Declared) → Indexes names.now (lifetime_names env.now)
-        → OnOk result (Reports all (map (λ l. tested_at at.entry (lifetime env.now l)) (flat_map lifetime_name (returned_lifetimes returned.now))) reports.old.items reports.new.items) }
+        → OnOk result (Reports all (map (λ l. tested_at at.entry (lifetime env.now l))
+        (flat_map lifetime_name (returned_lifetimes returned.now))) reports.old.items
+        reports.new.items) }
 {
     match returned {
         Some(ty) => test_type_lifetime(reports, at, names, env, ty),
@@ -288,11 +315,14 @@ fn test_returned_lifetime<'a>(
 fn test_lifetimes<'a>(
     reports: &mut Vec<Report<'a>>,
     at: At<'a>,
-    names: &NameIndex,
+    names: &NameIndex<usize>,
     method: &'a Method,
 ) -> Result<(), NoMemory>
     ensures { (all : List Declared) → Indexes names.now (lifetime_names method.now.lifetime_env)
-        → OnOk result (Reports all (map (λ l. tested_at at.entry (lifetime method.now.lifetime_env l)) (flat_map lifetime_name (method_lifetimes method.now))) reports.old.items reports.new.items) }
+        → OnOk result
+        (Reports all (map (λ l. tested_at at.entry (lifetime method.now.lifetime_env l))
+        (flat_map lifetime_name (method_lifetimes method.now))) reports.old.items
+        reports.new.items) }
 {
     let env = &method.lifetime_env;
     test_receiver_lifetime(reports, at, names, env, &method.self_param)?;
@@ -308,9 +338,9 @@ fn test_method<'a>(
     env: &Env,
     method: &'a Method,
 ) -> Result<(), NoMemory>
-    requires within { item.number < length env.now }
-    requires sound { IsSoundEnvironment method.now.lifetime_env }
-    ensures { OnOk result (Reports env.now (tested_in_method item.entry.number item.entry.path.now item.entry.item.now method.now) reports.old.items reports.new.items) }
+    requires { item.number < length env.now }
+    ensures { OnOk result (Reports env.now (tested_in_method item.entry.number item.entry.path.now
+        item.entry.item.now method.now) reports.old.items reports.new.items) }
 {
     let at = At {
         number: item.number,
@@ -318,9 +348,7 @@ fn test_method<'a>(
         item: item.item,
         method: Some(&method.name),
     };
-    let Some(names) = index_lifetimes(alloc, &method.lifetime_env)? else {
-        unreachable!()
-    };
+    let names = index_lifetimes(alloc, &method.lifetime_env)?;
     test_names(reports, at, method)?;
     test_paths(reports, at, env, method)?;
     test_lifetimes(reports, at, &names, method)
@@ -333,9 +361,11 @@ fn test_methods<'a>(
     env: &Env,
     methods: &'a [Method],
 ) -> Result<(), NoMemory>
-    requires within { item.number < length env.now }
-    requires sound { All (λ method. IsSoundEnvironment method.lifetime_env) methods.now }
-    ensures { OnOk result (Reports env.now (flat_map (tested_in_method item.entry.number item.entry.path.now item.entry.item.now) methods.now) reports.old.items reports.new.items) }
+    requires { item.number < length env.now }
+    ensures { OnOk result
+        (Reports env.now
+        (flat_map (tested_in_method item.entry.number item.entry.path.now item.entry.item.now)
+        methods.now) reports.old.items reports.new.items) }
 {
     for method in methods {
         test_method(alloc, reports, item, env, method)?;
@@ -352,9 +382,9 @@ fn test_item<'a>(
     env: &Env,
     item: &'a Item,
 ) -> Result<(), NoMemory>
-    requires within { number < length env.now }
-    requires sound { HasSoundMethods item.now }
-    ensures { OnOk result (Reports env.now (tested_in_item number path.now item.now) reports.old.items reports.new.items) }
+    requires { number < length env.now }
+    ensures { OnOk result (Reports env.now (tested_in_item number path.now item.now)
+        reports.old.items reports.new.items) }
 {
     let name = name_of(item);
     let at = At {
@@ -375,9 +405,9 @@ fn test_items<'a>(
     env: &Env,
     items: &'a [Item],
 ) -> Result<(), NoMemory>
-    requires within { number < length env.now }
-    requires sound { All HasSoundMethods items.now }
-    ensures { OnOk result (Reports env.now (flat_map (tested_in_item number path.now) items.now) reports.old.items reports.new.items) }
+    requires { number < length env.now }
+    ensures { OnOk result (Reports env.now (flat_map (tested_in_item number path.now) items.now)
+        reports.old.items reports.new.items) }
 {
     for item in items {
         test_item(alloc, reports, number, path, env, item)?;
@@ -393,9 +423,9 @@ fn test_module<'a>(
     env: &Env,
     declared: &'a Module,
 ) -> Result<(), NoMemory>
-    requires within { number < length env.now }
-    requires sound { HasSoundItems declared.now }
-    ensures { OnOk result (Reports env.now (tested_in_module number declared.now) reports.old.items reports.new.items) }
+    requires { number < length env.now }
+    ensures { OnOk result (Reports env.now (tested_in_module number declared.now) reports.old.items
+        reports.new.items) }
 {
     let path = declared.path.as_slice();
     test_items(alloc, reports, number, path, env, declared.items.as_slice())
@@ -408,7 +438,8 @@ fn test_number<'a>(
     env: &'a Env,
     number: usize,
 ) -> Result<(), NoMemory>
-    ensures { OnOk result (Reports env.now (tested_at_number env.now number) reports.old.items reports.new.items) }
+    ensures { OnOk result (Reports env.now (tested_at_number env.now number) reports.old.items
+        reports.new.items) }
 {
     match at(env.modules(), number) {
         Some(module) => test_module(alloc, reports, number, env, module),
@@ -422,8 +453,9 @@ pub fn faults_in<'a>(
     env: &'a Env,
     order: &[usize],
 ) -> Result<Vec<Report<'a>>, NoMemory>
-    requires { order.now ≡ walk_order env.now }
-    ensures { IfOk result (λ reports. Chosen (TestFails env.now) (tested_in env.now) (map tested_of reports.items)) }
+    requires { order.now ≡ module_order env.now }
+    ensures { IfOk result (λ reports. Chosen (TestFails env.now) (tested_in env.now)
+        (map tested_of reports.items)) }
 {
     let mut reports = Vec::new(alloc);
     for number in order {

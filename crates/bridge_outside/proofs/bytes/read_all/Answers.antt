@@ -14,7 +14,7 @@ loop-len-preserved g c =
     let fits : c.loop-len.len + c.in-Ok.n ≤ length c.make_room.new.bytes.items = fits_behind c.make_room.new.bytes.items c.in-Ok.ensures.reads.bound (omega arith) in (
       omega (arith, fits, c.read_behind.ensures.len, c.make_room.new.bytes.ok.0),
       omega (arith, c.read_behind.ensures.len, c.in_ok-make_room.ensures.size),
-      omega (arith, c.read_behind.ensures.one_call),
+      omega (arith, c.read_behind.ensures.reads.one_call),
       c.in-Ok.ensures.reads.steady ∙ c.loop-len.invariant.3,
       read_more _ c.make_room.new.bytes.items c.read_behind.new.bytes.items
           (room_made c.loop-len.bytes.items c.make_room.new.bytes.items c.loop-len.invariant.4 c.make_room.ensures.front)

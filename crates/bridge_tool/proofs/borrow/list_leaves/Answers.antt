@@ -1,6 +1,6 @@
 use Rattle.std.proofs.Common.{length, None}
 use Rattle.bridge_tool.specs.declared.borrow.Leaf.{Leaf}
-use Rattle.bridge_tool.specs.declared.report.InputPlace.TheVariants.{Receiver}
+use Rattle.bridge_tool.specs.declared.borrowing.InputPlace.TheVariants.{Receiver}
 use Rattle.bridge_tool.proofs.ListingLemmas.{lists_more, lists_all, in_range_at}
 use Rattle.bridge_tool.proofs.borrow.list_leaves.Goals as goal
 

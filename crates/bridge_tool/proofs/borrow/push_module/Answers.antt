@@ -1,14 +1,14 @@
 use Rattle.std.proofs.Common.{◌++◌, take}
 use Rattle.std.specs.List.{flat_map}
 use Rattle.bridge_tool.specs.Borrows.{callables_of}
-use Rattle.bridge_tool.specs.Signature.{HasNamedMethods}
-use Rattle.bridge_tool.specs.Methods.{HasSoundMethods}
+use Rattle.bridge_tool.specs.inside.Signatures.{HasNamedMethods}
+use Rattle.bridge_tool.specs.inside.Signatures.{HasSoundMethods}
 use Rattle.bridge_tool.proofs.ChosenLemmas.{all_at}
-use Rattle.bridge_tool.proofs.ReportsLemmas.{reports_more, reports_all}
+use Rattle.bridge_tool.proofs.BorrowingLemmas.{borrowings_more, borrowings_all}
 use Rattle.bridge_tool.proofs.borrow.push_module.Goals as goal
 
-pub push_reports-requires : goal.push_reports-requires
-push_reports-requires c = record {
+pub push_borrowings-requires : goal.push_borrowings-requires
+push_borrowings-requires c = record {
   sound = all_at HasSoundMethods c.as_slice-items.result.now c.args.declared.now.items c.loop-item.item-index c.item-item.result c.as_slice-items.ensures c.requires.sound
       c.loop-item-test.true c.item-item.is;
   names = all_at HasNamedMethods c.as_slice-items.result.now c.args.declared.now.items c.loop-item.item-index c.item-item.result c.as_slice-items.ensures c.requires.names
@@ -17,11 +17,11 @@ push_reports-requires c = record {
 
 pub loop-item-preserved : goal.loop-item-preserved
 loop-item-preserved c = λ before paired.
-    reports_more (callables_of c.args.declared.now.path) c.as_slice-items.result.now c.loop-item.item-index before _ c.item-item.result c.loop-item-test.true c.item-item.is
-    (c.in_ok-push_reports.ensures c.args.declared.now.path (before ++ flat_map (callables_of c.args.declared.now.path) (take c.loop-item.item-index c.as_slice-items.result.now))
+    borrowings_more (callables_of c.args.declared.now.path) c.as_slice-items.result.now c.loop-item.item-index before _ c.item-item.result c.loop-item-test.true c.item-item.is
+    (c.in_ok-push_borrowings.ensures c.args.declared.now.path (before ++ flat_map (callables_of c.args.declared.now.path) (take c.loop-item.item-index c.as_slice-items.result.now))
     (c.loop-item.invariant before paired))
 
 pub returns : goal.returns
 returns c = λ before paired.
-    reports_all (callables_of c.args.declared.now.path) c.as_slice-items.result.now c.loop-item.item-index before _ c.args.declared.now.items c.as_slice-items.ensures
+    borrowings_all (callables_of c.args.declared.now.path) c.as_slice-items.result.now c.loop-item.item-index before _ c.args.declared.now.items c.as_slice-items.ensures
     c.loop-item-test.false (c.loop-item.invariant before paired)

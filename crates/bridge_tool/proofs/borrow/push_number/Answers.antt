@@ -1,7 +1,7 @@
 use Rattle.std.proofs.Common.{sym}
-use Rattle.bridge_tool.specs.Methods.{HasSoundItems}
-use Rattle.bridge_tool.specs.Signature.{HasNamedItems}
-use Rattle.bridge_tool.proofs.WalkLemmas.{all_got}
+use Rattle.bridge_tool.specs.inside.Signatures.{HasSoundItems}
+use Rattle.bridge_tool.specs.inside.Signatures.{HasNamedItems}
+use Rattle.bridge_tool.proofs.OrderLemmas.{all_got}
 use Rattle.bridge_tool.proofs.borrow.push_number.Goals as goal
 
 pub push_module-requires-clause-sound : goal.push_module-requires-clause-sound

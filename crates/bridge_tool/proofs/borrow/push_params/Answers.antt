@@ -1,7 +1,7 @@
 use Rattle.std.proofs.Common.{◌++◌, ap, map, ◌∙◌}
-use Rattle.bridge_tool.specs.declared.report.InputPlace.TheVariants.{Param as Parameter}
+use Rattle.bridge_tool.specs.declared.borrowing.InputPlace.TheVariants.{Param as Parameter}
 use Rattle.bridge_tool.specs.Borrows.{leaves_at}
-use Rattle.bridge_tool.specs.Leaves.{leaf_of}
+use Rattle.bridge_tool.specs.inside.Listing.{leaf_of}
 use Rattle.bridge_tool.proofs.BorrowLemmas.{one_more_param, all_params}
 use Rattle.bridge_tool.proofs.borrow.push_params.Goals as goal
 

@@ -1,14 +1,14 @@
 use Rattle.std.proofs.Common.{List, Bool, length, map, refl, sym, subst}
 use Rattle.hir_life.specs.Environment.{Environment}
 use Rattle.hir_life.specs.Flags.{FlagsOutliving}
-use Rattle.bridge_tool.specs.Leaves.{leaf_of, AreInRange}
-use Rattle.bridge_tool.specs.Signature.{environment}
+use Rattle.bridge_tool.specs.inside.Listing.{leaf_of, AreInRange}
+use Rattle.hir_life.specs.Declarations.{declared_environment}
 use Rattle.bridge_tool.proofs.BorrowLemmas.{leaves_in_range, returned_is}
 use Rattle.bridge_tool.proofs.borrow.returned_lifetime.Goals as goal
 
 pub returns : goal.returns
 returns c = λ method env_is leaves_are.
-    let flags : FlagsOutliving (environment method.lifetime_env) c.args.lifetime c.deref.result.now =
+    let flags : FlagsOutliving (declared_environment method.lifetime_env) c.args.lifetime c.deref.result.now =
     subst (λ (e : Environment). FlagsOutliving e c.args.lifetime c.deref.result.now) env_is
     (subst (λ (f : List Bool). FlagsOutliving c.args.env.now c.args.lifetime f) (sym c.deref.ensures.value) c.in_ok-flags.ensures) in
     let range : AreInRange (length method.lifetime_env.nodes) (map leaf_of c.args.leaves.now) = subst (AreInRange (length method.lifetime_env.nodes)) (sym leaves_are) (leaves_in_range method) in

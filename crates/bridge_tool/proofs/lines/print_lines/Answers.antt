@@ -1,5 +1,5 @@
 use Rattle.bridge_tool.specs.Lines.{reported}
-use Rattle.bridge_tool.specs.Reports.{tested_of}
+use Rattle.bridge_tool.specs.inside.Reporting.{tested_of}
 use Rattle.bridge_tool.proofs.LinesLemmas.{lines_parts}
 use Rattle.bridge_outside.proofs.PrintingLaws.{◌⨟◌, prints_same, delivers}
 use Rattle.bridge_tool.proofs.lines.print_lines.Goals as goal

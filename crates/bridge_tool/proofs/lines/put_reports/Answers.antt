@@ -1,5 +1,5 @@
 use Rattle.bridge_tool.specs.Lines.{report_text, reported}
-use Rattle.bridge_tool.specs.Reports.{tested_of}
+use Rattle.bridge_tool.specs.inside.Reporting.{tested_of}
 use Rattle.bridge_tool.proofs.ChosenLemmas.{flat_map_one_more}
 use Rattle.bridge_outside.proofs.PrintingLaws.{◌⨟◌, prints_same}
 use Rattle.bridge_tool.proofs.lines.put_reports.Goals as goal

@@ -5,4 +5,4 @@ use Rattle.bridge_outside.specs.Printing.{Prints}
 use Rattle.bridge_tool.proofs.lines.put_segments.Given as goal
 
 abbrev pub invariant-loop-place : goal.invariant-loop-place
-invariant-loop-place g l = Prints g.K.Sink.taken g.K.Sink.faults l.fn.sink l.fn.out l.sink l.out (join_by (λ s. s) (codes "::") (take l.place l.segments))
+invariant-loop-place g l = Prints (g.K.Sink.state l.fn.sink) l.fn.out (g.K.Sink.state l.sink) l.out (join_by (λ s. s) (codes "::") (take l.place l.segments))

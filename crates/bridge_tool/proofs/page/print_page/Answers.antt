@@ -9,6 +9,6 @@ use Rattle.bridge_tool.proofs.page.print_page.Goals as goal
 pub returns : goal.returns
 returns g c =
     delivers _ c.new-out.ensures
-    (prints_same (ap (λ numbers. callables_text (flat_map (callables_at c.args.modules.now) numbers) c.args.reports.now) c.requires.order) c.put_modules.ensures
+    (prints_same (ap (λ numbers. callables_text (flat_map (callables_at c.args.modules.now) numbers) c.args.borrowings.now) c.requires.order) c.put_modules.ensures
     ⨟ (c.put_text.ensures ⨟ prints_same (ap decimal c.requires.each) c.put_number.ensures ⨟ c.put_text-2.ensures))
     c.finish.ensures.prints c.finish.ensures.end

@@ -5,4 +5,4 @@ use Rattle.bridge_outside.specs.Printing.{Prints}
 use Rattle.bridge_tool.proofs.page.put_all_returned.Given as goal
 
 abbrev pub invariant-loop-lifetime : goal.invariant-loop-lifetime
-invariant-loop-lifetime g l = Prints g.K.Sink.taken g.K.Sink.faults l.fn.sink l.fn.out l.sink l.out (flat_map (returned_text l.method) (take l.lifetime-index l.returned))
+invariant-loop-lifetime g l = Prints (g.K.Sink.state l.fn.sink) l.fn.out (g.K.Sink.state l.sink) l.out (flat_map (returned_text l.method) (take l.lifetime-index l.returned))

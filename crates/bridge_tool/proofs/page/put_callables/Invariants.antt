@@ -6,4 +6,4 @@ use Rattle.bridge_tool.proofs.page.put_callables.Given as goal
 
 abbrev pub invariant-loop-place : goal.invariant-loop-place
 invariant-loop-place g l =
-    Prints g.K.Sink.taken g.K.Sink.faults l.fn.sink l.fn.out l.sink l.out (callables_text (take l.place (callables_of l.path l.item)) (take l.place l.reports))
+    Prints (g.K.Sink.state l.fn.sink) l.fn.out (g.K.Sink.state l.sink) l.out (callables_text (take l.place (callables_of l.path l.item)) (take l.place l.borrowings))

@@ -7,6 +7,6 @@ use Rattle.bridge_tool.proofs.page.put_items.Given as goal
 
 abbrev pub invariant-loop-item : goal.invariant-loop-item
 invariant-loop-item g l = record {
-  printed : Prints g.K.Sink.taken g.K.Sink.faults l.fn.sink l.fn.out l.sink l.out (callables_text (flat_map (callables_of l.path) (take l.item-index l.items)) l.reports);
-  left : l.rest ≡ drop (length (flat_map (callables_of l.path) (take l.item-index l.items))) l.reports;
+  printed : Prints (g.K.Sink.state l.fn.sink) l.fn.out (g.K.Sink.state l.sink) l.out (callables_text (flat_map (callables_of l.path) (take l.item-index l.items)) l.borrowings);
+  left : l.rest ≡ drop (length (flat_map (callables_of l.path) (take l.item-index l.items))) l.borrowings;
 }

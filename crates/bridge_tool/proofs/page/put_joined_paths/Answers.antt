@@ -1,5 +1,5 @@
 use Rattle.std.specs.Prelude.{codes}
-use Rattle.bridge_tool.specs.Page.{path_text}
+use Rattle.bridge_tool.specs.Page.{leaf_text}
 use Rattle.bridge_outside.proofs.PrintingLaws.{prints_nothing}
 use Rattle.bridge_outside.proofs.JoinedLists.{prints_more, prints_all}
 use Rattle.bridge_tool.proofs.page.put_joined_paths.Goals as goal
@@ -8,7 +8,7 @@ pub loop-place-init : goal.loop-place-init
 loop-place-init g c = prints_nothing
 
 pub loop-place-preserved : goal.loop-place-preserved
-loop-place-preserved g c = prints_more (path_text c.args.method.now) (codes ", ") c.args.paths.now c.loop-place.place c.index-paths-place.result c.loop-place.invariant c.put_path.ensures c.loop-place-test.true c.index-paths-place.is
+loop-place-preserved g c = prints_more (leaf_text c.args.method.now) (codes ", ") c.args.paths.now c.loop-place.place c.index-paths-place.result c.loop-place.invariant c.put_path.ensures c.loop-place-test.true c.index-paths-place.is
 
 pub returns : goal.returns
-returns g c = prints_all (path_text c.args.method.now) (codes ", ") c.args.paths.now c.loop-place.place c.loop-place.invariant c.loop-place-test.false
+returns g c = prints_all (leaf_text c.args.method.now) (codes ", ") c.args.paths.now c.loop-place.place c.loop-place.invariant c.loop-place-test.false

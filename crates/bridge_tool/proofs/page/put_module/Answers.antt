@@ -9,6 +9,6 @@ pub returns : goal.returns
 returns g c =
     let same = module_callables c.args.declared.now c.as_slice.result.now c.as_slice-2.result.now c.as_slice.ensures c.as_slice-2.ensures in
     record {
-      printed = prints_same (ap (λ (cs : List Callable). callables_text cs c.args.reports.now) same) c.put_items.ensures.printed;
-      left = c.put_items.ensures.left ∙ ap (λ (cs : List Callable). drop (length cs) c.args.reports.now) same;
+      printed = prints_same (ap (λ (cs : List Callable). callables_text cs c.args.borrowings.now) same) c.put_items.ensures.printed;
+      left = c.put_items.ensures.left ∙ ap (λ (cs : List Callable). drop (length cs) c.args.borrowings.now) same;
     }

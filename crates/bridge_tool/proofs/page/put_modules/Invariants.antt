@@ -7,6 +7,6 @@ use Rattle.bridge_tool.proofs.page.put_modules.Given as goal
 
 abbrev pub invariant-loop-number : goal.invariant-loop-number
 invariant-loop-number g l = record {
-  printed : Prints g.K.Sink.taken g.K.Sink.faults l.fn.sink l.fn.out l.sink l.out (callables_text (flat_map (callables_at l.modules) (take l.number-index l.order)) l.reports);
-  left : l.rest ≡ drop (length (flat_map (callables_at l.modules) (take l.number-index l.order))) l.reports;
+  printed : Prints (g.K.Sink.state l.fn.sink) l.fn.out (g.K.Sink.state l.sink) l.out (callables_text (flat_map (callables_at l.modules) (take l.number-index l.order)) l.borrowings);
+  left : l.rest ≡ drop (length (flat_map (callables_at l.modules) (take l.number-index l.order))) l.borrowings;
 }

@@ -4,4 +4,4 @@ use Rattle.bridge_outside.specs.Printing.{Prints}
 use Rattle.bridge_tool.proofs.page.put_prefix.Given as goal
 
 abbrev pub invariant-loop-segment : goal.invariant-loop-segment
-invariant-loop-segment g l = Prints g.K.Sink.taken g.K.Sink.faults l.fn.sink l.fn.out l.sink l.out (prefix_text (take l.segment-index l.path))
+invariant-loop-segment g l = Prints (g.K.Sink.state l.fn.sink) l.fn.out (g.K.Sink.state l.sink) l.out (prefix_text (take l.segment-index l.path))

@@ -1,4 +1,4 @@
-use Rattle.bridge_tool.specs.Reports.{tested_of}
+use Rattle.bridge_tool.specs.inside.Reporting.{tested_of}
 use Rattle.bridge_tool.proofs.RefusalLemmas.{kept_without_faults, some_faults}
 use Rattle.bridge_tool.proofs.program.tell_of.Goals as goal
 

@@ -1,7 +1,8 @@
 use Rattle.std.proofs.Common.{map, get_or}
 use Rattle.std.proofs.lemmas.List.{get_or_default}
 use Rattle.bridge_tool.specs.Checks.{tested_at_number}
-use Rattle.bridge_tool.specs.Reports.{tested_of, TestFails}
+use Rattle.bridge_tool.specs.inside.Reporting.{tested_of}
+use Rattle.bridge_tool.specs.Checks.{TestFails}
 use Rattle.bridge_tool.proofs.ChosenLemmas.{appends_more}
 use Rattle.bridge_tool.proofs.ReportLemmas.{all_numbers_tested}
 use Rattle.bridge_tool.proofs.rules.faults_in.Goals as goal

@@ -1,5 +1,5 @@
 use Rattle.std.proofs.lemmas.Result.{on_ok_weaker}
-use Rattle.bridge_tool.specs.Reports.{TestFails}
+use Rattle.bridge_tool.specs.Checks.{TestFails}
 use Rattle.bridge_tool.proofs.ReportLemmas.{item_tested}
 use Rattle.bridge_tool.proofs.rules.test_item.Goals as goal
 

@@ -1,5 +1,5 @@
 use Rattle.bridge_tool.specs.Checks.{tested_in_item}
-use Rattle.bridge_tool.specs.Reports.{TestFails}
+use Rattle.bridge_tool.specs.Checks.{TestFails}
 use Rattle.bridge_tool.proofs.ChosenLemmas.{appends_more, appends_all}
 use Rattle.bridge_tool.proofs.rules.test_items.Goals as goal
 
@@ -12,9 +12,3 @@ pub returns : goal.returns
 returns c =
     appends_all (TestFails c.args.env.now) (tested_in_item c.args.number c.args.path.now) c.args.items.now c.loop-item.item-index _ _ c.loop-item-test.false
     c.loop-item.invariant
-
-pub test_item-requires : goal.test_item-requires
-test_item-requires c = record {
-  within = c.requires.within;
-  sound = rw c.item-item.is (c.requires.sound c.loop-item.item-index c.item-item.result c.loop-item-test.true);
-}

@@ -1,7 +1,7 @@
 use Rattle.std.proofs.Common.{take}
 use Rattle.std.specs.List.{flat_map}
 use Rattle.bridge_tool.specs.Checks.{tested_in_item}
-use Rattle.bridge_tool.specs.Reports.{Reports}
+use Rattle.bridge_tool.specs.inside.Reporting.{Reports}
 use Rattle.bridge_tool.proofs.rules.test_items.Given as goal
 
 abbrev pub invariant-loop-item : goal.invariant-loop-item

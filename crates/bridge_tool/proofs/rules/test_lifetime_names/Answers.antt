@@ -1,6 +1,7 @@
 use Rattle.std.proofs.Common.{[], ◌∷◌}
 use Rattle.bridge_tool.specs.Checks.{name}
-use Rattle.bridge_tool.specs.Reports.{tested_at, TestFails}
+use Rattle.bridge_tool.specs.inside.Reporting.{tested_at}
+use Rattle.bridge_tool.specs.Checks.{TestFails}
 use Rattle.bridge_tool.proofs.ChosenLemmas.{appends_more, appends_all}
 use Rattle.bridge_tool.proofs.rules.test_lifetime_names.Goals as goal
 

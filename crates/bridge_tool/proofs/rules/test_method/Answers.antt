@@ -1,6 +1,6 @@
 use Rattle.std.proofs.Common.{Some, refl}
 use Rattle.std.proofs.lemmas.Result.{on_ok_weaker}
-use Rattle.bridge_tool.specs.Reports.{TestFails}
+use Rattle.bridge_tool.specs.Checks.{TestFails}
 use Rattle.bridge_tool.proofs.ReportLemmas.{method_tested}
 use Rattle.bridge_tool.proofs.rules.test_method.Goals as goal
 
@@ -15,4 +15,4 @@ returns c =
       check = check;
     }) _ _ _ _ refl
     (c.in_ok-test_names.ensures all) c.in_ok-test_paths.ensures)
-    (c.test_lifetimes.ensures all (rw c.in-Some.is at c.in_ok-names.ensures).1)
+    (c.test_lifetimes.ensures all c.in_ok-names.ensures)

@@ -1,5 +1,5 @@
 use Rattle.bridge_tool.specs.Checks.{tested_in_method}
-use Rattle.bridge_tool.specs.Reports.{TestFails}
+use Rattle.bridge_tool.specs.Checks.{TestFails}
 use Rattle.bridge_tool.proofs.ChosenLemmas.{appends_more, appends_all}
 use Rattle.bridge_tool.proofs.rules.test_methods.Goals as goal
 
@@ -12,9 +12,3 @@ pub returns : goal.returns
 returns c =
     appends_all (TestFails c.args.env.now) (tested_in_method c.args.item.number c.args.item.path.now c.args.item.item.now) c.args.methods.now c.loop-method.method-index _ _
     c.loop-method-test.false c.loop-method.invariant
-
-pub test_method-requires : goal.test_method-requires
-test_method-requires c = record {
-  within = c.requires.within;
-  sound = rw c.method-item.is (c.requires.sound c.loop-method.method-index c.method-item.result c.loop-method-test.true);
-}

@@ -1,7 +1,7 @@
 use Rattle.std.proofs.Common.{take}
 use Rattle.std.specs.List.{flat_map}
 use Rattle.bridge_tool.specs.Checks.{tested_in_method}
-use Rattle.bridge_tool.specs.Reports.{Reports}
+use Rattle.bridge_tool.specs.inside.Reporting.{Reports}
 use Rattle.bridge_tool.proofs.rules.test_methods.Given as goal
 
 abbrev pub invariant-loop-method : goal.invariant-loop-method

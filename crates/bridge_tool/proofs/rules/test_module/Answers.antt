@@ -1,7 +1,5 @@
-use Rattle.std.proofs.Common.{All, subst, sym}
 use Rattle.std.proofs.lemmas.Result.{on_ok_weaker}
-use Rattle.bridge_tool.specs.Methods.{HasSoundMethods}
-use Rattle.bridge_tool.specs.Reports.{TestFails}
+use Rattle.bridge_tool.specs.Checks.{TestFails}
 use Rattle.bridge_tool.proofs.ReportLemmas.{module_tested}
 use Rattle.bridge_tool.proofs.rules.test_module.Goals as goal
 
@@ -10,6 +8,3 @@ returns c =
     on_ok_weaker c.test_items.result
     (module_tested (TestFails c.args.env.now) c.args.number c.args.declared.now c.as_slice-path.result.now c.as_slice.result.now _ _ c.as_slice-path.ensures c.as_slice.ensures)
     c.test_items.ensures
-
-pub test_items-requires-clause-sound : goal.test_items-requires-clause-sound
-test_items-requires-clause-sound c = subst (All HasSoundMethods) (sym c.as_slice.ensures) c.requires.sound

@@ -1,7 +1,8 @@
 use Rattle.std.proofs.Common.{map, refl, subst}
 use Rattle.bridge_decl.specs.Ident.{IsIdent}
 use Rattle.bridge_tool.specs.Checks.{name}
-use Rattle.bridge_tool.specs.Reports.{tested_at, tested_of, TestFails}
+use Rattle.bridge_tool.specs.inside.Reporting.{tested_at, tested_of}
+use Rattle.bridge_tool.specs.Checks.{TestFails}
 use Rattle.bridge_tool.proofs.ChosenLemmas.{appends_passed}
 use Rattle.bridge_tool.proofs.rules.test_name.Goals as goal
 

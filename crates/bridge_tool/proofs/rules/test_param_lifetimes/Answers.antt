@@ -2,7 +2,8 @@ use Rattle.std.proofs.Common.{map}
 use Rattle.std.specs.List.{flat_map}
 use Rattle.bridge_decl.specs.declared.types.TypeName.{out-TypeName}
 use Rattle.bridge_tool.specs.Checks.{lifetime, lifetime_name, type_lifetimes}
-use Rattle.bridge_tool.specs.Reports.{tested_at, TestFails}
+use Rattle.bridge_tool.specs.inside.Reporting.{tested_at}
+use Rattle.bridge_tool.specs.Checks.{TestFails}
 use Rattle.bridge_tool.proofs.ChosenLemmas.{appends_more, appends_all}
 use Rattle.bridge_tool.proofs.rules.test_param_lifetimes.Goals as goal
 

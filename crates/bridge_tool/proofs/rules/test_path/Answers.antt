@@ -1,6 +1,7 @@
 use Rattle.std.proofs.Common.{map}
 use Rattle.bridge_tool.specs.Checks.{path}
-use Rattle.bridge_tool.specs.Reports.{tested_at, tested_of, TestFails}
+use Rattle.bridge_tool.specs.inside.Reporting.{tested_at, tested_of}
+use Rattle.bridge_tool.specs.Checks.{TestFails}
 use Rattle.bridge_tool.proofs.ChosenLemmas.{appends_passed}
 use Rattle.bridge_tool.proofs.rules.test_path.Goals as goal
 

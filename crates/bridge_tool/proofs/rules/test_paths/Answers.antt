@@ -1,6 +1,7 @@
 use Rattle.std.proofs.lemmas.Result.{on_ok_weaker}
 use Rattle.bridge_tool.specs.Checks.{path}
-use Rattle.bridge_tool.specs.Reports.{tested_at, TestFails}
+use Rattle.bridge_tool.specs.inside.Reporting.{tested_at}
+use Rattle.bridge_tool.specs.Checks.{TestFails}
 use Rattle.bridge_tool.proofs.ReportLemmas.{paths_tested}
 use Rattle.bridge_tool.proofs.rules.test_paths.Goals as goal
 

@@ -1,0 +1,25 @@
+-- What follows from the table of statuses, for the number that a run ends with.
+use Rattle.std.specs.Prelude.{◌≡◌, ◌≢◌, ◌≤◌, ◌<◌, ◌^◌, ◌⊎◌, ◌↔◌, ℕ, List, String, IfSome, length}
+use Rattle.std.specs.declared.alloc.Global.{Global}
+use Rattle.bridge_outside.specs.Outside.{Rose}
+use Rattle.bridge_tool.specs.declared.status.Status.TheVariants as status
+use Rattle.bridge_tool.specs.Running.{World, AreCommand, IsAnswered, IsCutShort}
+
+-- What follows, number by number.
+pub record Follows (words : List (String Global)) (old new : World) (code : ℕ) : Type 0 where
+  pub accepted : code ≡ 0 → IsAnswered old new status.Accepted
+  pub refused : code ≡ 1 → IsAnswered old new status.Refused
+  pub declined : code ≡ 2 → IsAnswered old new status.NotDeclarations
+  pub read_failed : code ≡ 3 → Rose old.source.faults new.source.faults
+  pub write_failed : code ≡ 4 → Rose old.sink.faults new.sink.faults
+  -- 4 and 5: the sink took nothing, or a first part of a text that answers the bytes with another status
+  pub cut_short : (code ≡ 4) ⊎ (code ≡ 5) → (new.sink.taken ≡ old.sink.taken) ⊎ IsCutShort old new
+  -- 6 comes exactly where the words are no command
+  pub bad_words : (code ≡ 6) ↔ (¬ (AreCommand words))
+  pub too_long : code ≡ 7 → IfSome old.source.left (λ had. 2 ^ 26 < length had)
+  -- only a failed read, or want of memory, leaves the source's count of faults raised, and likewise for the sink
+  pub reads_steady : code ≢ 3 → code ≢ 5 → new.source.faults ≡ old.source.faults
+  pub writes_steady : code ≢ 4 → code ≢ 5 → new.sink.faults ≡ old.sink.faults
+  -- with 3, 6 and 7 nothing is written
+  pub unwritten : (code ≡ 3) ⊎ (code ≡ 6) ⊎ (code ≡ 7) → new.sink.taken ≡ old.sink.taken
+  pub at_most_seven : code ≤ 7

@@ -1,0 +1,5 @@
+//! Tests, one module a subject.
+
+mod examples;
+mod inputs;
+mod program;
