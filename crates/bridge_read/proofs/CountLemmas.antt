@@ -11,7 +11,7 @@ use Rattle.bridge_read.specs.Form.{Form, Each, IsList, NeededAt, HeldAt}
 use Rattle.bridge_read.specs.Pointers.{in_entries, in_modules, in_root, items_of, module_pointers, modules_within}
 use Rattle.bridge_read.specs.Reading.{at_key, under}
 use Rattle.bridge_read.specs.forms.Inputs.{no_backend, whole}
-use Rattle.bridge_read.specs.forms.Modules.{any_text, contents, joined, module_of, module_within, nested_in, path_in, root}
+use Rattle.bridge_read.specs.forms.Modules.{any_text, contents, in_a_row, module_of, module_within, nested_in, path_in, root}
 use Rattle.bridge_read.specs.forms.Settings.{backend, config, no_config, urls, no_urls}
 use Rattle.bridge_read.proofs.PointerLemmas.{length_both}
 use Rattle.bridge_read.proofs.forms.Modules.{contents_lawful}
@@ -29,7 +29,7 @@ held_gives form absent (Some d) K C gives h = gives h.0 h.2
 
 module _ (levels : ℕ) (count : (path : List (List ℕ)) (d : Data) (ms : List Module) → (module_within levels path).Spells d ms → length ms ≡ length (modules_within levels d)) where
   each_counted : (path : List (List ℕ)) (n : ℕ) (ds : Items) (lists : List (List Module)) → Each (module_within levels path).Spells ds lists
-      → length (joined lists) ≡ length (in_entries (modules_within levels) n ds)
+      → length (in_a_row lists) ≡ length (in_entries (modules_within levels) n ds)
   each_counted path n no_items [] h = refl
   each_counted path n no_items (x ∷ xs) h = absurd h
   each_counted path n (item d ds) [] h = absurd h
@@ -37,12 +37,12 @@ module _ (levels : ℕ) (count : (path : List (List ℕ)) (d : Data) (ms : List 
       let first = count path d x h.0 in
       let others = each_counted path (n + 1) ds xs h.1 in
       let here = length-map (modules_within levels d) (λ steps. Index n ∷ steps) in
-      let both = length_both x (joined xs) in
+      let both = length_both x (in_a_row xs) in
       let all = length_both (map (λ steps. Index n ∷ steps) (modules_within levels d)) (in_entries (modules_within levels) (n + 1) ds) in
       omega (arith, first, others, here, both, all)
 
   list_counted : (path : List (List ℕ)) (d : Data) (lists : List (List Module)) → IsList (module_within levels path).Spells d lists
-      → length (joined lists) ≡ length (in_entries (modules_within levels) 0 (items_of d))
+      → length (in_a_row lists) ≡ length (in_entries (modules_within levels) 0 (items_of d))
   unfolding items_of
   list_counted path null lists h = absurd h
   list_counted path (boolean b) lists h = absurd h
@@ -54,7 +54,7 @@ module _ (levels : ℕ) (count : (path : List (List ℕ)) (d : Data) (ms : List 
   nested_counted : (path : List (List ℕ)) (d : Data) (ms : List Module) → (nested_in levels path).Spells d ms
       → length ms ≡ length (in_entries (modules_within levels) 0 (items_of d))
   nested_counted path d ms h =
-      subst (λ (all : List Module). length all ≡ length (in_entries (modules_within levels) 0 (items_of d))) (given_is (joined h.0) ms h.2) (list_counted path d h.0 h.1)
+      subst (λ (all : List Module). length all ≡ length (in_entries (modules_within levels) 0 (items_of d))) (given_is (in_a_row h.0) ms h.2) (list_counted path d h.0 h.1)
 
   module_counted : (path own : List (List ℕ)) (holds : Contents) (o : Option Data) (ms : List Module)
       → HeldAt (nested_in levels path) [] o (λ inner. module_of own holds inner ≡ ms) → length ms ≡ suc (length (in_modules (modules_within levels) o))

@@ -19,7 +19,7 @@ use Rattle.bridge_read.specs.Keys.{key_text}
 use Rattle.bridge_read.specs.Reading.{◌>>=◌, at_key, each_of, entries_of, held_of, inside, needed_of, not_null, only, optional_of, or_wrong_at, under, has_only}
 use Rattle.bridge_read.specs.forms.Attrs.{condition_keys, condition_under, condition_within, condition_word, pair_condition}
 use Rattle.bridge_read.specs.forms.Lifetimes.{lifetime, path}
-use Rattle.bridge_read.specs.forms.Modules.{any_text, contents, joined, module_at, module_parts, module_within, nested_in, path_in}
+use Rattle.bridge_read.specs.forms.Modules.{any_text, contents, in_a_row, named_module, module_parts, module_within, nested_in, path_in}
 use Rattle.bridge_read.specs.forms.Types.{borrow, callback_of, custom_slice_of, option_type_of, primitive_slice, reference_type_of, result_of, str_list, str_slice, type_keys, type_under, type_within, type_word, writer}
 use Rattle.bridge_read.proofs.FormLaws.{LawfulParts}
 use Rattle.bridge_read.proofs.PartLaws.{told_lawful, grouped_lawful}
@@ -374,7 +374,7 @@ condition_same (suc l) d lt =
 nested_same : (l : ℕ) (path : List (List ℕ)) → ((x : Data) → depth x < 2 * l → SaySame (module_within l path) (module_within (suc l) path) x)
     → (d : Data) → depth d ≤ 2 * l → SaySame (nested_in l path) (nested_in (suc l) path) d
 nested_same l own same d le =
-    refined_same (λ x. Some (joined x)) (list (module_within l own)) (list (module_within (suc l) own)) d
+    refined_same (λ x. Some (in_a_row x)) (list (module_within l own)) (list (module_within (suc l) own)) d
     (list_same (module_within l own) (module_within (suc l) own) d (λ x lt. same x (omega (arith, le, lt))))
 
 -- a module takes two levels of the text
@@ -382,7 +382,7 @@ module_same : (l : ℕ) (parent : List (List ℕ)) (d : Data) → depth d < 2 * 
 module_same zero parent d lt = absurd (omega (arith, lt))
 module_same (suc l) parent d lt =
     object_same (module_parts (nested_in l) parent) (module_parts (nested_in (suc l)) parent) d
-    (both_same _ _ _ _ d (both_same _ _ _ _ d (both_same _ _ _ _ d (both_same _ _ _ _ d (made_same module_at d)
+    (both_same _ _ _ _ d (both_same _ _ _ _ d (both_same _ _ _ _ d (both_same _ _ _ _ d (made_same named_module d)
     (needs_same key.Name any_text any_text d (λ e is. itself any_text e)))
     (parts_itself (told (path_in parent)) (told_lawful (path_in parent)) d))
     (parts_itself (grouped contents) (grouped_lawful contents contents_lawful) d))

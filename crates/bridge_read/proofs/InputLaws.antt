@@ -9,6 +9,7 @@ use Rattle.bridge_ast.specs.declared.fault.EnvFault.TheVariants.{Bad}
 use Rattle.bridge_ast.specs.declared.fault.EnvFaultKind.{EnvFaultKind}
 use Rattle.bridge_ast.specs.declared.fault.EnvPlace.{EnvPlace}
 use Rattle.bridge_ast.specs.Sound.{AreSound}
+use Rattle.bridge_ast.proofs.FittingLemmas.{order_of_sound}
 use Rattle.bridge_ast.proofs.SoundLemmas.{clean_from}
 use Rattle.bridge_decl.specs.declared.modules.Module.{Module}
 use Rattle.bridge_read.specs.declared.fault.Fault.{Fault}
@@ -17,7 +18,7 @@ use Rattle.bridge_read.specs.declared.input.Input.{Input}
 use Rattle.bridge_read.specs.declared.input.InputFault.{InputFault}
 use Rattle.bridge_read.specs.declared.input.InputFault.TheVariants.{NotDeclarations, NoMemory}
 use Rattle.bridge_read.specs.inside.Answers.{GivesForm, GivesEnv, IsNoJson}
-use Rattle.bridge_read.specs.Inputs.{IsJsonOf, SpellsInput, IsFirstFault, IsToldOf, IsReadAs, Refuses, Tells, all_faults, between, fault_of, told_in}
+use Rattle.bridge_read.specs.Inputs.{IsJsonOf, SpellsInput, IsFirstFault, IsToldOf, IsReadAs, Refuses, IsToldAs, all_faults, between, declared_fault, told_in}
 use Rattle.bridge_read.specs.forms.Inputs.{declared_of, whole}
 use Rattle.bridge_read.proofs.FormLaws.{Begins}
 use Rattle.bridge_read.proofs.forms.Inputs.{whole_lawful}
@@ -59,7 +60,7 @@ spelled_once bytes one other first second =
 pub faultless : (bytes : List ℕ) (value : Data) (input : Input) → SpellsInput bytes input → IsJsonOf bytes value → all_faults value ≡ []
 faultless bytes value input spells json =
     let reads = read_of bytes value input json spells in
-    rw (whole_lawful.sound value (declared_by input) reads, reads, clean_from input.env spells.sound) refl
+    rw (whole_lawful.sound value (declared_by input) reads, reads, clean_from input.env (order_of_sound input.env spells.sound)) refl
 
 pub is_spelled : (bytes : List ℕ) (d : Data) (declared : Declared) → IsJsonOf bytes d → whole.read d ≡ Ok declared → AreSound declared.modules → SpellsInput bytes (input_by declared)
 is_spelled bytes d declared json reads sound = record { value = d; json = json; form = whole_lawful.found d declared reads; sound = sound }
@@ -68,28 +69,28 @@ is_spelled bytes d declared json reads sound = record { value = d; json = json; 
 first_of : (fault : Fault) (faults others : List Fault) → Begins fault faults → slice_get (faults ++ others) 0 ≡ Some fault
 first_of fault faults others begins = rw begins.is refl
 
-pub form_told : (bytes : List ℕ) (d : Data) (told : InputFault) (fault : Fault) → IsJsonOf bytes d → whole.read d ≡ Err fault → Tells told fault → IsFirstFault bytes told
+pub form_told : (bytes : List ℕ) (d : Data) (told : InputFault) (fault : Fault) → IsJsonOf bytes d → whole.read d ≡ Err fault → IsToldAs told fault → IsFirstFault bytes told
 form_told bytes d told fault json reads tells =
     record { value = d; json = json; fault = fault; first = first_of fault (whole.faults d) (between d (whole.read d)) (whole_lawful.first d fault reads); tells = tells }
 
-pub between_told : (bytes : List ℕ) (d : Data) (told : InputFault) (declared : Declared) (fault : Fault) → IsJsonOf bytes d → whole.read d ≡ Ok declared → slice_get (flat_map (told_in d) (faults_of declared.modules)) 0 ≡ Some fault → Tells told fault → IsFirstFault bytes told
+pub between_told : (bytes : List ℕ) (d : Data) (told : InputFault) (declared : Declared) (fault : Fault) → IsJsonOf bytes d → whole.read d ≡ Ok declared → slice_get (flat_map (told_in d) (faults_of declared.modules)) 0 ≡ Some fault → IsToldAs told fault → IsFirstFault bytes told
 between_told bytes d told declared fault json reads first tells =
     record { value = d; json = json; fault = fault; first = rw (whole_lawful.sound d declared reads, reads) first; tells = tells }
 
 -- the first fault of modules, as one of the value that declares them
 pub first_between : (d : Data) (what : EnvFaultKind) (at : EnvPlace) (other : Option EnvPlace) (faults : List EnvFault) → slice_get faults 0 ≡ Some (Bad what at other)
-    → slice_get (flat_map (told_in d) faults) 0 ≡ Some (fault_of d what at)
+    → slice_get (flat_map (told_in d) faults) 0 ≡ Some (declared_fault d what at)
 first_between d what at other [] e = absurd cc
 first_between d what at other (fault ∷ faults) e = rw (given_is fault (Bad what at other) e) refl
 
 pub env_told : (d : Data) (told : InputFault) (what : EnvFaultKind) (at : EnvPlace) (other : Option EnvPlace) (modules : List Module)
-    → IsFirst (Bad what at other) (faults_of modules) → ¬ AreSound modules → Tells told (fault_of d what at) → GivesEnv (Err told) d modules
+    → IsFirst (Bad what at other) (faults_of modules) → ¬ AreSound modules → IsToldAs told (declared_fault d what at) → GivesEnv (Err told) d modules
 env_told d NoMemory what at other modules first broken tells = tt
 env_told d (NotDeclarations kind pointer) what at other modules first broken tells =
-    (broken, (fault_of d what at, first_between d what at other (faults_of modules) first, tells))
+    (broken, (declared_fault d what at, first_between d what at other (faults_of modules) first, tells))
 
 pub first_told : (d : Data) (told : InputFault) (fault : EnvFault) (what : EnvFaultKind) (at : EnvPlace) (other : Option EnvPlace) (modules : List Module)
-    → fault ≡ Bad what at other → IsFirst fault (faults_of modules) → (IsBad fault → ¬ AreSound modules) → Tells told (fault_of d what at) → GivesEnv (Err told) d modules
+    → fault ≡ Bad what at other → IsFirst fault (faults_of modules) → (IsBad fault → ¬ AreSound modules) → IsToldAs told (declared_fault d what at) → GivesEnv (Err told) d modules
 first_told d told fault what at other modules is first broken tells =
     env_told d told what at other modules (subst (λ f. IsFirst f (faults_of modules)) is first) (broken (subst IsBad (sym is) tt)) tells
 

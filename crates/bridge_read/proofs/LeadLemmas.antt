@@ -18,7 +18,7 @@ use Rattle.bridge_read.specs.Reading.{at_key, not_null, under}
 use Rattle.bridge_read.specs.forms.Attrs.{attrs, no_attrs}
 use Rattle.bridge_read.specs.forms.Inputs.{no_backend, whole}
 use Rattle.bridge_read.specs.forms.Items.{item_form}
-use Rattle.bridge_read.specs.forms.Modules.{alias, any_text, contents, joined, module_of, module_within, nested_in, path_in, root}
+use Rattle.bridge_read.specs.forms.Modules.{alias, any_text, contents, in_a_row, module_of, module_within, nested_in, path_in, root}
 use Rattle.bridge_read.specs.forms.Settings.{backend, config, no_config, urls, no_urls}
 use Rattle.bridge_read.proofs.CountLemmas.{given_is, held_gives, needed_grows}
 
@@ -116,29 +116,29 @@ in_all ds steps m (k, rest, is, o, at, h) =
 
 module _ (levels : ℕ) (lead : (path : List (List ℕ)) (d : Data) (ms : List Module) → (module_within levels path).Spells d ms → Beside (LeadsTo d) (modules_within levels d) ms) where
   each_lead : (path : List (List ℕ)) (n : ℕ) (ds : Items) (lists : List (List Module)) → Each (module_within levels path).Spells ds lists
-      → Beside (LeadsIn n ds) (in_entries (modules_within levels) n ds) (joined lists)
+      → Beside (LeadsIn n ds) (in_entries (modules_within levels) n ds) (in_a_row lists)
   each_lead path n no_items [] h = tt
   each_lead path n no_items (x ∷ xs) h = absurd h
   each_lead path n (item d ds) [] h = absurd h
   each_lead path n (item d ds) (x ∷ xs) h =
-      beside_both (LeadsIn n (item d ds)) (map (λ steps. Index n ∷ steps) (modules_within levels d)) x (in_entries (modules_within levels) (n + 1) ds) (joined xs)
+      beside_both (LeadsIn n (item d ds)) (map (λ steps. Index n ∷ steps) (modules_within levels d)) x (in_entries (modules_within levels) (n + 1) ds) (in_a_row xs)
       (beside_map (LeadsTo d) (LeadsIn n (item d ds)) (λ steps. Index n ∷ steps) (in_first n d ds) (modules_within levels d) x (lead path d x h.0))
-      (beside_weaker (LeadsIn (n + 1) ds) (LeadsIn n (item d ds)) (in_later n d ds) (in_entries (modules_within levels) (n + 1) ds) (joined xs) (each_lead path (n + 1) ds xs h.1))
+      (beside_weaker (LeadsIn (n + 1) ds) (LeadsIn n (item d ds)) (in_later n d ds) (in_entries (modules_within levels) (n + 1) ds) (in_a_row xs) (each_lead path (n + 1) ds xs h.1))
 
   list_leads : (path : List (List ℕ)) (d : Data) (lists : List (List Module)) → IsList (module_within levels path).Spells d lists
-      → Beside (LeadsTo d) (in_entries (modules_within levels) 0 (items_of d)) (joined lists)
+      → Beside (LeadsTo d) (in_entries (modules_within levels) 0 (items_of d)) (in_a_row lists)
   unfolding items_of
   list_leads path null lists h = absurd h
   list_leads path (boolean b) lists h = absurd h
   list_leads path (number n) lists h = absurd h
   list_leads path (string s) lists h = absurd h
-  list_leads path (array ds) lists h = beside_weaker (LeadsIn 0 ds) (LeadsTo (array ds)) (in_all ds) (in_entries (modules_within levels) 0 ds) (joined lists) (each_lead path 0 ds lists h)
+  list_leads path (array ds) lists h = beside_weaker (LeadsIn 0 ds) (LeadsTo (array ds)) (in_all ds) (in_entries (modules_within levels) 0 ds) (in_a_row lists) (each_lead path 0 ds lists h)
   list_leads path (object ms) lists h = absurd h
 
   nested_leads : (path : List (List ℕ)) (d : Data) (ms : List Module) → (nested_in levels path).Spells d ms
       → Beside (LeadsTo d) (in_entries (modules_within levels) 0 (items_of d)) ms
   nested_leads path d ms h =
-      subst (Beside (LeadsTo d) (in_entries (modules_within levels) 0 (items_of d))) (given_is (joined h.0) ms h.2) (list_leads path d h.0 h.1)
+      subst (Beside (LeadsTo d) (in_entries (modules_within levels) 0 (items_of d))) (given_is (in_a_row h.0) ms h.2) (list_leads path d h.0 h.1)
 
   -- a module, and those that stand in it
   module_leads : (path own : List (List ℕ)) (d : Data) (holds : Contents) (spells : SpellsContents d holds) (named : (own ≡ []) ⊎ ((parent : List (List ℕ)) × (own ≡ path_in parent d)))

@@ -31,7 +31,7 @@ use Rattle.bridge_read.specs.Form.{Each, IsList, NeededAt, HeldAt}
 use Rattle.bridge_read.specs.Parents.{LacksParent}
 use Rattle.bridge_read.specs.Reading.{under}
 use Rattle.bridge_read.specs.forms.Inputs.{no_backend, whole}
-use Rattle.bridge_read.specs.forms.Modules.{any_text, contents, joined, module_of, module_within, name_of, nested_in, path_in, root}
+use Rattle.bridge_read.specs.forms.Modules.{any_text, contents, in_a_row, module_of, module_within, name_of, nested_in, path_in, root}
 use Rattle.bridge_read.specs.forms.Settings.{backend, config, no_config, urls, no_urls}
 use Rattle.bridge_read.proofs.CountLemmas.{given_is, held_gives, needed_grows}
 use Rattle.bridge_read.proofs.forms.Modules.{contents_lawful}
@@ -189,15 +189,15 @@ found_last (first ∷ modules) m = first_or (path_eq first.path m.path) (module_
 
 module _ (levels : ℕ) (ones : (before : List Module) (parent : List (List ℕ)) → IsSome (module_at before parent) → (d : Data) (ms : List Module) → (module_within levels parent).Spells d ms → AreRooted before ms) where
   each_rooted : (before : List Module) (path : List (List ℕ)) → IsSome (module_at before path) → (ds : Items) (lists : List (List Module)) → Each (module_within levels path).Spells ds lists
-      → AreRooted before (joined lists)
+      → AreRooted before (in_a_row lists)
   each_rooted before path found no_items [] h = tt
   each_rooted before path found no_items (x ∷ xs) h = absurd h
   each_rooted before path found (item d ds) [] h = absurd h
   each_rooted before path found (item d ds) (x ∷ xs) h =
-      rooted_both before x (joined xs) (ones before path found d x h.0) (each_rooted (before ++ x) path (found_more before x path found) ds xs h.1)
+      rooted_both before x (in_a_row xs) (ones before path found d x h.0) (each_rooted (before ++ x) path (found_more before x path found) ds xs h.1)
 
   list_rooted : (before : List Module) (path : List (List ℕ)) → IsSome (module_at before path) → (d : Data) (lists : List (List Module)) → IsList (module_within levels path).Spells d lists
-      → AreRooted before (joined lists)
+      → AreRooted before (in_a_row lists)
   list_rooted before path found null lists h = absurd h
   list_rooted before path found (boolean b) lists h = absurd h
   list_rooted before path found (number n) lists h = absurd h
@@ -206,7 +206,7 @@ module _ (levels : ℕ) (ones : (before : List Module) (parent : List (List ℕ)
   list_rooted before path found (object ms) lists h = absurd h
 
   nested_rooted : (before : List Module) (path : List (List ℕ)) → IsSome (module_at before path) → (d : Data) (ms : List Module) → (nested_in levels path).Spells d ms → AreRooted before ms
-  nested_rooted before path found d ms h = subst (AreRooted before) (given_is (joined h.0) ms h.2) (list_rooted before path found d h.0 h.1)
+  nested_rooted before path found d ms h = subst (AreRooted before) (given_is (in_a_row h.0) ms h.2) (list_rooted before path found d h.0 h.1)
 
   module_rooted : (before : List Module) (own : List (List ℕ)) → IsRooted before (parent_and_last own) → (holds : Contents) (o : Option Data) (ms : List Module)
       → HeldAt (nested_in levels own) [] o (λ inner. module_of own holds inner ≡ ms) → AreRooted before ms

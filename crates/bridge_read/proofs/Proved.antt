@@ -4,7 +4,7 @@ use Rattle.std.specs.Prelude.{ℤ}
 use Rattle.serde_json.specs.Data.{Data}
 use Rattle.bridge_read.specs.declared.keys.Key.{Key}
 use Rattle.bridge_read.specs.declared.fault.Fault.{Fault}
-use Rattle.bridge_read.specs.Reading.{text_of, number_of, flag_of, byte_of, integer_of, not_empty}
+use Rattle.bridge_read.specs.Reading.{text_of, number_read, flag_of, byte_of, integer_of, not_empty}
 use Rattle.bridge_read.proofs.DictionaryLaws.{dictionary_lawful}
 use Rattle.bridge_read.specs.Form.{dictionary, Form, Parts, single, list, object_with, made, ◌&◌, needs, may_have, may_be, may_be_by, told, skips, grouped, refined, refined_at, word_or, one_of, never, two, chosen_by, find_word}
 use Rattle.bridge_read.proofs.FormLaws.{Lawful, LawfulParts, single_lawful, list_lawful}
@@ -91,7 +91,7 @@ abbrev pub Text : Proved (List ℕ)
 Text = Single text_of
 
 abbrev pub Number : Proved ℕ
-Number = Single number_of
+Number = Single number_read
 
 abbrev pub Flag : Proved Bool
 Flag = Single flag_of

@@ -17,7 +17,8 @@ use Rattle.bridge_ast.specs.declared.fault.EnvPart.TheVariants as part
 use Rattle.bridge_ast.specs.declared.fault.EnvPlace.{EnvPlace}
 use Rattle.bridge_ast.specs.Bounds.{in_range, answered}
 use Rattle.bridge_ast.specs.Each.{each, each_after}
-use Rattle.bridge_ast.specs.EnvFaults.{Named, aliases_named, items_named, named_at, nodes_named, part_named, place, module_at, parent_and_last, where_so, repeats, repeats_name, bound_faults, node_faults, lifetime_faults, method_nodes_of, nodes_of, method_faults, item_faults, alias_faults, faults_under, parent_faults, content_faults, module_faults, faults_of, path_faults}
+use Rattle.bridge_decl.specs.NameIndex.{meaning_of}
+use Rattle.bridge_ast.specs.EnvFaults.{Named, aliases_named, items_named, named_at, nodes_named, place, module_at, parent_and_last, where_so, repeats, repeats_name, bound_faults, node_faults, lifetime_faults, method_nodes_of, nodes_of, method_faults, item_faults, alias_faults, faults_under, parent_faults, content_faults, module_faults, faults_of, path_faults}
 use Rattle.bridge_decl.specs.Names.{item_name}
 use Rattle.bridge_read.specs.TruePlaces.{HasLifetime, HasPart, HasPlace, IsPlaced}
 
@@ -67,7 +68,7 @@ module _ (modules : List Module) where
     there what has = (m, here, has)
 
     named_placed : (kind : EnvFaultKind) (earlier : List Named) (name : List ℕ) (what : EnvPart) → HasPart m what → Placed (repeats_name kind number earlier name what)
-    named_placed kind earlier name what has = repeats_placed kind (place number what) (option_map (place number) (part_named earlier name)) (there what has)
+    named_placed kind earlier name what has = repeats_placed kind (place number what) (option_map (place number) (meaning_of earlier name)) (there what has)
 
     bound_placed : (what : EnvPart) (nodes : List LifetimeNode) (n : ℕ) (node : LifetimeNode) → HasPart m what → Placed (bound_faults (place number what) nodes n node)
     bound_placed what nodes n node has =
@@ -116,7 +117,7 @@ module _ (modules : List Module) where
     under_placed : (o : Option ℕ) (name : List ℕ) → Placed (faults_under before o name)
     under_placed None name = one_placed (IsPlaced modules) (Bad ParentMissing (place (length before) part.Module) None) (there (length before) m here part.Module tt)
     under_placed (Some n) name =
-        repeats_placed DuplicateItem (place (length before) part.Module) (option_map (place n) (part_named (named_at before n) name)) (there (length before) m here part.Module tt)
+        repeats_placed DuplicateItem (place (length before) part.Module) (option_map (place n) (meaning_of (named_at before n) name)) (there (length before) m here part.Module tt)
 
     parent_placed : (split : Option (List (List ℕ) × List ℕ)) → Placed (parent_faults before split)
     parent_placed None = none_placed (IsPlaced modules)

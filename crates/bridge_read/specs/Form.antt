@@ -9,7 +9,7 @@ use Rattle.bridge_read.specs.declared.fault.InputKind.TheVariants as kind
 use Rattle.bridge_read.specs.declared.fault.Fault.{Fault}
 use Rattle.bridge_read.specs.declared.pointer.Step.{Step}
 use Rattle.bridge_read.specs.declared.pointer.Step.TheVariants as step
-use Rattle.bridge_read.specs.Reading.{◌>>=◌, not_null, here, within, inside, at_key, under, is_one_of, has_only, only, needed_of, optional_of, held_of, list_of, entries_of, text_of, number_of, flag_of, byte_of, integer_of, or_wrong_at, refined_of, not_empty}
+use Rattle.bridge_read.specs.Reading.{◌>>=◌, not_null, here, within, inside, at_key, under, is_one_of, has_only, only, needed_of, optional_of, held_of, list_of, entries_of, text_of, number_read, flag_of, byte_of, integer_of, or_wrong_at, refined_of, not_empty}
 
 -- which value spells what, the faults of a value, and what is read of it
 pub record Form (A : Type 0) : Type 1 where
@@ -290,7 +290,7 @@ text = single text_of
 
 -- a number of a lifetime: whole, not negative and below 2 ^ 64
 abbrev pub number_form : Form ℕ
-number_form = single number_of
+number_form = single number_read
 
 abbrev pub some_list : {A : Type 0} → Form A → Form (List A)
 some_list form = refined not_empty (list form)

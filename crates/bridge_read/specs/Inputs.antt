@@ -50,11 +50,11 @@ kind_of env.BoundOutOfRange = kind.BoundOutOfRange
 kind_of env.BoundOneSided = kind.BoundOneSided
 
 -- a fault of a kind at a place of the modules that the value declares, as one of the value
-abbrev pub fault_of : Data → EnvFaultKind → EnvPlace → Fault
-fault_of d what at = record { kind = kind_of what; at = place_steps (module_pointers d) at }
+abbrev pub declared_fault : Data → EnvFaultKind → EnvPlace → Fault
+declared_fault d what at = record { kind = kind_of what; at = place_steps (module_pointers d) at }
 
 abbrev pub told_in : Data → EnvFault → List Fault
-told_in d (Bad what at other) = fault_of d what at ∷ []
+told_in d (Bad what at other) = declared_fault d what at ∷ []
 told_in d no_env_memory = []
 
 -- the faults between the declarations of a value that has the form
@@ -69,14 +69,14 @@ all_faults d = whole.faults d ++ between d (whole.read d)
 -- ---- what is told
 
 -- the fault is told: its kind, and the text of its pointer; want of memory tells nothing
-abbrev pub Tells : InputFault → Fault → Type 0
-Tells (NotDeclarations what pointer) fault = (what ≡ fault.kind) × (pointer ≡ pointer_text fault.at)
-Tells NoMemory fault = Unit {0}
+abbrev pub IsToldAs : InputFault → Fault → Type 0
+IsToldAs (NotDeclarations what pointer) fault = (what ≡ fault.kind) × (pointer ≡ pointer_text fault.at)
+IsToldAs NoMemory fault = Unit {0}
 
 -- the bytes are no JSON text, and that is told at the whole
 pub record IsNone (bytes : List ℕ) (told : InputFault) : Type 0 where
   pub none : ¬ IsJson bytes
-  pub tells : Tells told (here kind.NotJson)
+  pub tells : IsToldAs told (here kind.NotJson)
 
 -- the bytes are a JSON text, and the first fault of its value is told
 pub record IsFirstFault (bytes : List ℕ) (told : InputFault) : Type 0 where
@@ -84,7 +84,7 @@ pub record IsFirstFault (bytes : List ℕ) (told : InputFault) : Type 0 where
   pub json : IsJsonOf bytes value
   pub fault : Fault
   pub first : slice_get (all_faults value) 0 ≡ Some fault
-  pub tells : Tells told fault
+  pub tells : IsToldAs told fault
 
 -- what is told of bytes that spell no input
 abbrev pub IsToldOf : List ℕ → InputFault → Type 0

@@ -158,8 +158,8 @@ abbrev pub or_wrong : {A : Type 0} → Option A → Result A Fault
 or_wrong (Some x) = Ok x
 or_wrong None = Err (here kind.WrongForm)
 
-unfoldable pub number_of : Data → Result ℕ Fault
-number_of d = or_wrong (option_and_then as_u64 (as_number d))
+unfoldable pub number_read : Data → Result ℕ Fault
+number_read d = or_wrong (option_and_then as_u64 (as_number d))
 
 unfoldable pub flag_of : Data → Result Bool Fault
 flag_of d = or_wrong (as_bool d)

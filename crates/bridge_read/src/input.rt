@@ -11,7 +11,7 @@ ghost use Rattle.bridge_read.specs.declared.pointer.Step.{Step as Way};
 ghost use Rattle.bridge_read.specs.declared.input.Input.{Input as Given};
 ghost use Rattle.bridge_read.specs.declared.input.InputFault.TheVariants.{NoMemory as no_memory};
 ghost use Rattle.bridge_read.specs.Agree.{CutsNothing};
-ghost use Rattle.bridge_read.specs.Inputs.{IsJsonOf, IsReadAs, IsToldOf, Refuses, SpellsInput, Tells, all_faults, fault_of, kind_of};
+ghost use Rattle.bridge_read.specs.Inputs.{IsJsonOf, IsReadAs, IsToldOf, Refuses, SpellsInput, IsToldAs, all_faults, declared_fault, kind_of};
 ghost use Rattle.bridge_read.specs.ModulePlaces.{LeadsTo};
 ghost use Rattle.bridge_read.specs.Parents.{LacksParent};
 ghost use Rattle.bridge_read.specs.Pointers.{module_pointers};
@@ -111,7 +111,7 @@ impl FromForm for Declared {
 
 /// The fault of a kind at a pointer.
 fn fault_at(alloc: Global, kind: InputKind, at: Pointer) -> InputFault
-    ensures { Tells result (record { kind = kind; at = at }) }
+    ensures { IsToldAs result (record { kind = kind; at = at }) }
 {
     match at.into_text(alloc) {
         Ok(pointer) => InputFault::NotDeclarations { kind, pointer },
@@ -158,7 +158,7 @@ fn kind_of(kind: EnvFaultKind) -> InputKind
 
 /// A fault between the declarations of a value.
 fn fault_between(alloc: Global, value: &Value, kind: EnvFaultKind, at: EnvPlace) -> InputFault
-    ensures { Tells result (fault_of (view value.now) kind at) }
+    ensures { IsToldAs result (declared_fault (view value.now) kind at) }
 {
     match place_pointer(alloc, value, at) {
         Ok(pointer) => fault_at(alloc, kind_of(kind), pointer),

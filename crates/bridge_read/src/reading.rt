@@ -152,11 +152,11 @@ impl FromForm for Text {
     }
 }
 
-#[tactic(auto, unfolding(crate::specs::Reading::number_of))]
+#[tactic(auto, unfolding(crate::specs::Reading::number_read))]
 impl FromForm for usize {
-    ghost use Rattle.bridge_read.specs.Reading.{number_of};
+    ghost use Rattle.bridge_read.specs.Reading.{number_read};
 
-    ghost form = { number_of };
+    ghost form = { number_read };
 
     fn from_form(alloc: Global, value: &Value) -> Result<usize, ReadFault> {
         match value.as_u64() {

@@ -4,7 +4,7 @@ use Rattle.bridge_decl.specs.declared.modules.Alias.{Alias}
 use Rattle.bridge_decl.specs.declared.modules.Module.{Module}
 use Rattle.bridge_read.specs.declared.keys.Key.TheVariants as key
 use Rattle.bridge_read.specs.declared.modules.Contents.{Contents}
-use Rattle.bridge_read.specs.forms.Modules.{alias_of, alias, contents_of, contents, joined, module_of, module_at, nothing_of, any_text, path_in, module_parts, module_within, nested_in, root}
+use Rattle.bridge_read.specs.forms.Modules.{alias_of, alias, contents_of, contents, in_a_row, module_of, named_module, nothing_of, any_text, path_in, module_parts, module_within, nested_in, root}
 use Rattle.bridge_read.proofs.FormLaws.{Lawful, LawfulParts}
 use Rattle.bridge_read.proofs.Proved.{Proved, ProvedParts, List_of, Object, Made, Needs, May_be, May_be_by, Told, Grouped, Never, ◌&&&◌, Text, Mapped}
 use Rattle.bridge_read.specs.forms.Attrs.{no_attrs}
@@ -36,12 +36,12 @@ P_any_text = record { form = any_text; lawful = any_text_lawful }
 
 module _ (nested : List (List ℕ) → Form (List Module)) (lawful : (path : List (List ℕ)) → Lawful (nested path)) (parent : List (List ℕ)) where
   module_parts_lawful : LawfulParts (module_parts nested parent)
-  module_parts_lawful = (Made module_at &&& Needs key.Name P_any_text &&& Told (path_in parent) &&& Grouped P_contents &&& May_be_by key.Modules (λ d. record { form = nested (path_in parent d); lawful = lawful (path_in parent d) }) []).lawful
+  module_parts_lawful = (Made named_module &&& Needs key.Name P_any_text &&& Told (path_in parent) &&& Grouped P_contents &&& May_be_by key.Modules (λ d. record { form = nested (path_in parent d); lawful = lawful (path_in parent d) }) []).lawful
 
 pub module_within_lawful : (levels : ℕ) (parent : List (List ℕ)) → Lawful (module_within levels parent)
 module_within_lawful zero parent = Never.lawful
-module_within_lawful (suc levels) parent = object_lawful (module_parts (nested_in levels) parent) (module_parts_lawful (nested_in levels) (λ path. (Mapped joined (List_of (record { form = module_within levels path; lawful = module_within_lawful levels path }))).lawful) parent)
+module_within_lawful (suc levels) parent = object_lawful (module_parts (nested_in levels) parent) (module_parts_lawful (nested_in levels) (λ path. (Mapped in_a_row (List_of (record { form = module_within levels path; lawful = module_within_lawful levels path }))).lawful) parent)
 
 pub root_lawful : Lawful root
 unfolding root
-root_lawful = (Object (Made (module_of []) &&& Grouped P_contents &&& May_be key.Modules (Mapped joined (List_of (record { form = module_within 64 []; lawful = module_within_lawful 64 [] }))) [])).lawful
+root_lawful = (Object (Made (module_of []) &&& Grouped P_contents &&& May_be key.Modules (Mapped in_a_row (List_of (record { form = module_within 64 []; lawful = module_within_lawful 64 [] }))) [])).lawful

@@ -28,15 +28,15 @@ unfoldable pub contents : Parts Contents
 contents = made contents_of & may_be key.Attrs attrs no_attrs & may_be key.Items (list item_form) [] & may_be key.Aliases (list alias) []
 
 -- lists one after the other, as one
-abbrev pub joined : {A : Type 0} → List (List A) → List A
-joined [] = []
-joined (xs ∷ lists) = xs ++ joined lists
+abbrev pub in_a_row : {A : Type 0} → List (List A) → List A
+in_a_row [] = []
+in_a_row (xs ∷ lists) = xs ++ in_a_row lists
 
 abbrev pub module_of : List (List ℕ) → Contents → List Module → List Module
 module_of path holds inner = record { path = path; attrs = holds.attrs; items = holds.items; aliases = holds.aliases } ∷ inner
 
-abbrev pub module_at : Unit {0} → List (List ℕ) → Contents → List Module → List Module
-module_at named path holds inner = module_of path holds inner
+abbrev pub named_module : Unit {0} → List (List ℕ) → Contents → List Module → List Module
+named_module named path holds inner = module_of path holds inner
 
 -- a text, whatever it is
 abbrev pub nothing_of : List ℕ → Unit {0}
@@ -59,16 +59,16 @@ path_in parent d = parent ++ name_of d ∷ []
 
 -- {"name": text, "attrs": attributes, "items": [items], "aliases": [aliases], "modules": modules}, in the module of that path
 abbrev pub module_parts : (List (List ℕ) → Form (List Module)) → List (List ℕ) → Parts (List Module)
-module_parts nested parent = made module_at & needs key.Name any_text & told (path_in parent) & grouped contents & may_be_by key.Modules (λ d. nested (path_in parent d)) []
+module_parts nested parent = made named_module & needs key.Name any_text & told (path_in parent) & grouped contents & may_be_by key.Modules (λ d. nested (path_in parent d)) []
 
 -- a module in the module of that path, in which modules nest at most so deep
 abbrev pub module_within : ℕ → List (List ℕ) → Form (List Module)
 module_within zero parent = never
-module_within (suc levels) parent = object_with (module_parts (λ path. mapped joined (list (module_within levels path))) parent)
+module_within (suc levels) parent = object_with (module_parts (λ path. mapped in_a_row (list (module_within levels path))) parent)
 
 -- the modules of a list, in the module of that path
 abbrev pub nested_in : ℕ → List (List ℕ) → Form (List Module)
-nested_in levels path = mapped joined (list (module_within levels path))
+nested_in levels path = mapped in_a_row (list (module_within levels path))
 
 -- the root has no name. A JSON text nests at most 127 deep, and each module takes two levels of it
 unfoldable pub root : Form (List Module)

@@ -9,7 +9,7 @@ use Rattle.bridge_read.specs.declared.fault.Fault.{Fault}
 use Rattle.bridge_read.specs.declared.input.Declared.{Declared}
 use Rattle.bridge_read.specs.declared.input.InputFault.{InputFault}
 use Rattle.bridge_read.specs.declared.input.InputFault.TheVariants.{NotDeclarations, NoMemory}
-use Rattle.bridge_read.specs.Inputs.{IsNone, Tells, told_in}
+use Rattle.bridge_read.specs.Inputs.{IsNone, IsToldAs, told_in}
 use Rattle.bridge_read.specs.forms.Inputs.{whole}
 
 -- where the bytes are read as no JSON value
@@ -22,7 +22,7 @@ abbrev pub GivesForm : Result Declared InputFault → Data → Type 0
 GivesForm (Ok declared) d = whole.read d ≡ Ok declared
 GivesForm (Err NoMemory) d = Unit {0}
 GivesForm (Err (NotDeclarations what pointer)) d =
-    (fault : Fault) × (whole.read d ≡ Err fault) × Tells (NotDeclarations what pointer) fault
+    (fault : Fault) × (whole.read d ≡ Err fault) × IsToldAs (NotDeclarations what pointer) fault
 
 -- the environment of the modules that the value declares, or their first fault, unless memory ran out
 abbrev pub GivesEnv : Result (List Module) InputFault → Data → List Module → Type 0
@@ -30,4 +30,4 @@ GivesEnv (Ok env) d modules = (env ≡ modules) × AreSound modules
 GivesEnv (Err NoMemory) d modules = Unit {0}
 GivesEnv (Err (NotDeclarations what pointer)) d modules =
     ¬ AreSound modules × ((fault : Fault) × (slice_get (flat_map (told_in d) (faults_of modules)) 0 ≡ Some fault)
-    × Tells (NotDeclarations what pointer) fault)
+    × IsToldAs (NotDeclarations what pointer) fault)
