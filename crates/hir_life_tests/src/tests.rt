@@ -1,5 +1,8 @@
 //! Worked examples.
 
+ghost use Rattle.std.specs.Prelude.{◌≡◌};
+ghost use Rattle.hir_life.specs.declared.maybe_static.MaybeStatic.TheVariants.{NonStatic};
+
 mod agree;
 mod counted;
 mod declared;
@@ -7,7 +10,7 @@ mod plain;
 mod sound;
 
 use crate::tests::counted::counted;
-use bridge_decl::IdentBuf;
+use bridge_decl::{IdentBuf, NoMemory};
 use hir_life::{
     BoundedLifetime, Lifetime, LifetimeEnv, LifetimeList, LifetimeTransitivityIterator, Lifetimes,
     MaybeStatic,
@@ -124,28 +127,52 @@ fn steps(rt: HostRuntime) -> Result<(), Fail> {
     Ok(())
 }
 
+fn number(n: usize) -> MaybeStatic<Lifetime>
+    ensures { result ≡ NonStatic n }
+{
+    MaybeStatic::NonStatic(Lifetime::new(n))
+}
+
 /// The lifetimes 1, `'static` and 0 of a definition whose arguments are `'static` and 4.
-#[test]
-fn substitution(rt: HostRuntime) -> Result<(), Fail> {
-    let alloc = rt.alloc();
-    let number = |n: usize| MaybeStatic::NonStatic(Lifetime::new(n));
+fn in_method(alloc: Global) -> Result<Lifetimes, NoMemory> {
     let arguments = Lifetimes::from_slice(alloc, &[MaybeStatic::Static, number(4)])?;
     let inner = Lifetimes::from_slice(alloc, &[number(1), MaybeStatic::Static, number(0)])?;
-    let outer = inner.as_method_lifetimes(alloc, &arguments)?;
+    inner.as_method_lifetimes(alloc, &arguments)
+}
+
+#[test]
+fn substitution(rt: HostRuntime) -> Result<(), Fail> {
+    let outer = in_method(rt.alloc())?;
     assert_eq!(rt;
         outer.as_slice(),
         [number(4), MaybeStatic::Static, MaybeStatic::Static].as_slice()
     );
+    Ok(())
+}
+
+#[test]
+fn substitution_of_one(rt: HostRuntime) -> Result<(), Fail> {
+    let arguments = Lifetimes::from_slice(rt.alloc(), &[MaybeStatic::Static, number(4)])?;
     assert_eq!(rt; Lifetime::new(1).as_method_lifetime(&arguments), number(4));
-    let mut given = Lifetimes::new(alloc);
-    for lifetime in outer.try_clone(alloc)?.lifetimes() {
+    Ok(())
+}
+
+#[test]
+fn given_one_by_one(rt: HostRuntime) -> Result<(), Fail> {
+    let outer = in_method(rt.alloc())?.try_clone(rt.alloc())?;
+    let mut given = Lifetimes::new(rt.alloc());
+    for lifetime in outer.lifetimes() {
         given.push(lifetime)?;
     }
     assert_eq!(rt; given.as_slice(), outer.as_slice());
-    assert_eq!(rt; outer.len(), 3);
+    assert_eq!(rt; given.len(), 3);
+    Ok(())
+}
+
+#[test]
+fn order(rt: HostRuntime) {
     assert!(rt; MaybeStatic::Static < number(0));
     assert!(rt; number(0) < number(1));
-    Ok(())
 }
 
 /// The lifetimes and bounds of `<'a, 'b: 'a>` with one anonymous lifetime, and of an equal environment.
