@@ -65,5 +65,6 @@ pub use bridge_decl::{
 };
 pub use environment::Env;
 pub use fault::{EnvFault, EnvFaultKind, EnvPart, EnvPlace};
+pub use items::name_of;
 pub use place::ItemPlace;
 pub use resolution::{CustomType, TraitAt};

@@ -1,26 +1,12 @@
-//! What all items have in common.
+//! What rules and borrowings have in common: the methods of items, and what is written in their types.
 
 ghost use Rattle.std.specs.Prelude.{◌≡◌, option_to_list};
 ghost use Rattle.std.specs.Option.{option_copied};
 ghost use Rattle.bridge_decl.specs.declared.types.TypeName.{out-TypeName};
-ghost use Rattle.bridge_decl.specs.Names.{item_name};
 ghost use Rattle.bridge_tool.specs.Checks.{own_paths, type_paths, type_lifetimes, receiver_lifetimes};
 ghost use Rattle.bridge_tool.specs.Methods.{methods_of};
 
-use bridge_ast::{Item, Lifetime, Method, PathType, SelfParam, Text, TypeName};
-
-/// The name of an item.
-pub fn name_of(item: &Item) -> &Text
-    ensures { result.now ≡ item_name item.now }
-{
-    match item {
-        Item::Struct(item) => &item.name,
-        Item::Opaque(item) => &item.name,
-        Item::Enum(item) => &item.name,
-        Item::Trait(item) => &item.name,
-        Item::Function(item) => &item.name,
-    }
-}
+use bridge_ast::{Item, Lifetime, Method, PathType, SelfParam, TypeName};
 
 /// The methods of an item: none for a trait, whose methods are declared otherwise, and for a function.
 pub fn methods(item: &Item) -> &[Method]

@@ -14,8 +14,8 @@ ghost use Rattle.bridge_tool.specs.Methods.{methods_of};
 use crate::borrowing::{
     CallableReport, InputPlace, LeafPath, ReportEdge, ReportEdgeKind, ReturnedLifetime,
 };
-use crate::declarations::{methods, name_of};
-use bridge_ast::{Item, Method, Module, Text};
+use crate::declarations::methods;
+use bridge_ast::{Item, Method, Module, Text, name_of};
 use bridge_outside::{Printer, Sink, SinkFault, finish, put_number, put_separator, put_text};
 use sqlite_items::at;
 

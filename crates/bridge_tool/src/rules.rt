@@ -12,11 +12,11 @@ ghost use Rattle.bridge_tool.specs.Order.{module_order};
 ghost use Rattle.bridge_tool.specs.inside.Reporting.{tested_at, tested_of, Reports};
 ghost use Rattle.bridge_tool.specs.Checks.{TestFails};
 
-use crate::declarations::{methods, name_of, receiver_lifetime, written_lifetime, written_path};
+use crate::declarations::{methods, receiver_lifetime, written_lifetime, written_path};
 use crate::faults::{At, Fault, Report};
 use bridge_ast::{
     Env, Item, Lifetime, LifetimeEnv, LifetimeNode, Method, Module, NoMemory, Param, PathType,
-    SelfParam, Text, TypeName, is_ident,
+    SelfParam, Text, TypeName, is_ident, name_of,
 };
 use bridge_decl::{NameIndex, index_lifetimes};
 use sqlite_items::at;
