@@ -1,6 +1,4 @@
 mod clones;
-mod compare;
-mod declared;
 mod idents;
 mod index;
 mod rename;

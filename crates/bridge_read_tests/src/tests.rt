@@ -2,6 +2,7 @@
 
 mod accepted;
 mod bridge;
+mod clones;
 mod faulty;
 mod faulty_attrs;
 mod faulty_parts;

@@ -1,31 +1,4 @@
-use super::compare::modules;
-use super::declared::{module, text};
 use bridge_decl::{Items, NoMemory, Text, clone_items, clone_option, clone_texts};
-use std::test::Fail;
-
-#[test]
-fn a_module_with_one_of_each_is_copied(rt: HostRuntime) -> Result<(), Fail> {
-    let declared = module(rt.alloc())?;
-    let copy = declared.try_clone(rt.alloc())?;
-    assert!(rt; modules(&declared, &copy));
-    // the copy stands alone
-    drop(declared);
-    let again = module(rt.alloc())?;
-    assert!(rt; modules(&again, &copy));
-    Ok(())
-}
-
-#[test]
-fn what_differs_is_told_apart(rt: HostRuntime) -> Result<(), Fail> {
-    let declared = module(rt.alloc())?;
-    let mut other = module(rt.alloc())?;
-    other.path.push(text(rt.alloc(), "m")?)?;
-    assert!(rt; !modules(&declared, &other));
-    let mut fewer = module(rt.alloc())?;
-    drop(fewer.items.pop());
-    assert!(rt; !modules(&declared, &fewer));
-    Ok(())
-}
 
 #[test]
 fn lists_and_options_are_copied(rt: HostRuntime) -> Result<(), NoMemory> {

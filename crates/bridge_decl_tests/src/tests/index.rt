@@ -1,27 +1,32 @@
-use super::declared::{lifetimes, text};
-use bridge_decl::{LifetimeEnv, LifetimeNode, NameIndex, index_lifetimes, take_name};
-use sqlite_items::Items;
+use bridge_decl::{
+    Items, LifetimeEnv, LifetimeNode, NameIndex, NoMemory, Text, index_lifetimes, take_name,
+};
+use std::alloc::Global;
 use std::collections::BTreeMap;
 use std::test::Fail;
 
-#[test]
-fn lifetimes_have_numbers(rt: HostRuntime) -> Result<(), Fail> {
-    let index = index_lifetimes(rt.alloc(), &lifetimes(rt.alloc())?)?;
-    for (name, number) in [("a", Some(0)), ("b", Some(1)), ("c", None), ("", None)] {
-        let name = text(rt.alloc(), name)?;
-        assert_eq!(rt; index.get(&name).copied(), number);
-    }
-    let mut nodes = Items::new(rt.alloc());
-    for name in ["a", "b", "a"] {
+/// The lifetimes of these names, without bounds.
+fn lifetimes(alloc: Global, names: &[&str]) -> Result<LifetimeEnv, NoMemory> {
+    let mut nodes = Items::new(alloc);
+    for name in names {
         nodes.push(LifetimeNode {
-            name: text(rt.alloc(), name)?,
-            longer: Items::new(rt.alloc()),
-            shorter: Items::new(rt.alloc()),
+            name: Text::new(alloc, name)?,
+            longer: Items::new(alloc),
+            shorter: Items::new(alloc),
         })?;
     }
-    let twice = index_lifetimes(rt.alloc(), &LifetimeEnv { nodes })?;
-    assert_eq!(rt; twice.get(&text(rt.alloc(), "a")?).copied(), Some(0));
-    assert_eq!(rt; twice.len(), 2);
+    Ok(LifetimeEnv { nodes })
+}
+
+#[test]
+fn lifetimes_have_numbers(rt: HostRuntime) -> Result<(), Fail> {
+    // Of a name that stands twice the first counts.
+    let env = lifetimes(rt.alloc(), &["a", "b", "a"])?;
+    let index = index_lifetimes(rt.alloc(), &env)?;
+    for (name, number) in [("a", Some(0)), ("b", Some(1)), ("c", None), ("", None)] {
+        let name = Text::new(rt.alloc(), name)?;
+        assert_eq!(rt; index.get(&name).copied(), number);
+    }
     Ok(())
 }
 
@@ -35,9 +40,9 @@ fn a_name_keeps_its_first_value(rt: HostRuntime) -> Result<(), Fail> {
         ("a", 'w', Some('x')),
     ];
     for (name, value, earlier) in rows {
-        let name = text(rt.alloc(), name)?;
+        let name = Text::new(rt.alloc(), name)?;
         assert_eq!(rt; take_name(rt.alloc(), &mut index, &name, value)?, earlier);
     }
-    assert_eq!(rt; index.get(&text(rt.alloc(), "b")?).copied(), Some('y'));
+    assert_eq!(rt; index.get(&Text::new(rt.alloc(), "b")?).copied(), Some('y'));
     Ok(())
 }
