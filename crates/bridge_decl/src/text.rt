@@ -67,6 +67,17 @@ impl Text {
     }
 }
 
+/// The string's bytes as a text: they are moved, and not copied.
+impl From<String> for Text {
+    ghost use Rattle.std.specs.Prelude.{◌≡◌, string_bytes};
+
+    ghost from_gives = { λ string text. text ≡ string_bytes string };
+
+    fn from(string: String) -> Text {
+        Text { text: string }
+    }
+}
+
 impl PartialEq for Text {
     ghost eq = { pointwise nat_eq };
 

@@ -78,3 +78,13 @@ fn texts_compare_by_bytes(rt: HostRuntime) -> Result<(), NoMemory> {
     assert_eq!(rt; text.to_string(rt.alloc())?.as_str(), "naïve");
     Ok(())
 }
+
+#[test]
+fn a_string_is_a_text_of_its_bytes(rt: HostRuntime) -> Result<(), NoMemory> {
+    for word in ["", "ab", "na\u{ef}ve"] {
+        let text = Text::from(String::from_str(rt.alloc(), word)?);
+        assert_eq!(rt; text.as_str(), word);
+        assert!(rt; text == Text::new(rt.alloc(), word)?);
+    }
+    Ok(())
+}
