@@ -13,7 +13,8 @@ pub fn clone_items<T: Drop, F: Fn(&T, Global) -> Result<T, NoMemory>>(
     clone: F,
 ) -> Result<Items<T>, NoMemory>
     requires callable { F.IsAlwaysCallable clone }
-    requires equal { (item : _) (a : _) (answer : _) → F.post clone item a answer → IfOk answer (λ copy. copy ≡ item.now) }
+    requires equal { (item : _) (a : _) (answer : _) → F.post clone item a answer
+        → IfOk answer (λ copy. copy ≡ item.now) }
     ensures { IfOk result (λ copies. copies ≡ items.now) }
 {
     let mut copies = Items::new(alloc);
@@ -30,7 +31,8 @@ pub fn clone_option<T: Drop, F: Fn(&T, Global) -> Result<T, NoMemory>>(
     clone: F,
 ) -> Result<Option<T>, NoMemory>
     requires callable { F.IsAlwaysCallable clone }
-    requires equal { (item : _) (a : _) (answer : _) → F.post clone item a answer → IfOk answer (λ copy. copy ≡ item.now) }
+    requires equal { (item : _) (a : _) (answer : _) → F.post clone item a answer
+        → IfOk answer (λ copy. copy ≡ item.now) }
     ensures { IfOk result (λ copy. copy ≡ value.now) }
 {
     match value {

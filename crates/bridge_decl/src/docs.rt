@@ -2,7 +2,7 @@
 
 ghost use Rattle.std.specs.Prelude.{◌≡◌, IfOk};
 
-use crate::attrs::DiplomatBackendAttrCfg;
+use crate::attrs::{Attrs, DiplomatBackendAttrCfg};
 use crate::clones::{clone_items, clone_texts};
 use crate::text::{NoMemory, Text};
 use sqlite_items::Items;
@@ -110,4 +110,17 @@ pub enum DocType {
     AssociatedTypeInTrait,
     AssociatedTypeInStruct,
     Typedef,
+}
+
+/// A copy of what documents and marks a declaration, which is equal to them.
+pub(crate) fn clone_notes(
+    alloc: Global,
+    docs: &Docs,
+    attrs: &Attrs,
+) -> Result<(Docs, Attrs), NoMemory>
+    ensures { IfOk result (λ copy. copy ≡ (docs.now, attrs.now)) }
+{
+    let docs = docs.try_clone(alloc)?;
+    let attrs = attrs.try_clone(alloc)?;
+    Ok((docs, attrs))
 }

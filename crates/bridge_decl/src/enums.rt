@@ -4,7 +4,7 @@ ghost use Rattle.std.specs.Prelude.{◌≡◌, IfOk};
 
 use crate::attrs::Attrs;
 use crate::clones::clone_items;
-use crate::docs::Docs;
+use crate::docs::{Docs, clone_notes};
 use crate::methods::Method;
 use crate::text::{NoMemory, Text};
 use sqlite_items::Items;
@@ -30,12 +30,16 @@ impl Enum {
     pub fn try_clone(&self, alloc: Global) -> Result<Enum, NoMemory>
         ensures { IfOk result (λ copy. copy ≡ self.now) }
     {
+        let name = self.name.try_clone(alloc)?;
+        let variants = clone_items(alloc, &self.variants, Variant::try_clone)?;
+        let methods = clone_items(alloc, &self.methods, Method::try_clone)?;
+        let (docs, attrs) = clone_notes(alloc, &self.docs, &self.attrs)?;
         Ok(Enum {
-            name: self.name.try_clone(alloc)?,
-            variants: clone_items(alloc, &self.variants, Variant::try_clone)?,
-            methods: clone_items(alloc, &self.methods, Method::try_clone)?,
-            docs: self.docs.try_clone(alloc)?,
-            attrs: self.attrs.try_clone(alloc)?,
+            name,
+            variants,
+            methods,
+            docs,
+            attrs,
         })
     }
 }
@@ -58,11 +62,13 @@ impl Variant {
     pub fn try_clone(&self, alloc: Global) -> Result<Variant, NoMemory>
         ensures { IfOk result (λ copy. copy ≡ self.now) }
     {
+        let name = self.name.try_clone(alloc)?;
+        let (docs, attrs) = clone_notes(alloc, &self.docs, &self.attrs)?;
         Ok(Variant {
-            name: self.name.try_clone(alloc)?,
+            name,
             discriminant: self.discriminant,
-            docs: self.docs.try_clone(alloc)?,
-            attrs: self.attrs.try_clone(alloc)?,
+            docs,
+            attrs,
         })
     }
 }

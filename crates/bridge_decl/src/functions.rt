@@ -4,8 +4,8 @@ ghost use Rattle.std.specs.Prelude.{◌≡◌, IfOk};
 
 use crate::attrs::Attrs;
 use crate::clones::{clone_items, clone_option};
-use crate::docs::Docs;
-use crate::lifetimes::LifetimeEnv;
+use crate::docs::{Docs, clone_notes};
+use crate::lifetimes::{LifetimeEnv, clone_head};
 use crate::methods::Param;
 use crate::text::{NoMemory, Text};
 use crate::types::TypeName;
@@ -36,14 +36,19 @@ impl Function {
     pub fn try_clone(&self, alloc: Global) -> Result<Function, NoMemory>
         ensures { IfOk result (λ copy. copy ≡ self.now) }
     {
+        let (name, lifetimes) = clone_head(alloc, &self.name, &self.lifetimes)?;
+        let abi_name = self.abi_name.try_clone(alloc)?;
+        let params = clone_items(alloc, &self.params, Param::try_clone)?;
+        let (docs, attrs) = clone_notes(alloc, &self.docs, &self.attrs)?;
+        let output_type = clone_option(alloc, &self.output_type, TypeName::try_clone)?;
         Ok(Function {
-            name: self.name.try_clone(alloc)?,
-            abi_name: self.abi_name.try_clone(alloc)?,
-            lifetimes: self.lifetimes.try_clone(alloc)?,
-            params: clone_items(alloc, &self.params, Param::try_clone)?,
-            output_type: clone_option(alloc, &self.output_type, TypeName::try_clone)?,
-            docs: self.docs.try_clone(alloc)?,
-            attrs: self.attrs.try_clone(alloc)?,
+            name,
+            abi_name,
+            lifetimes,
+            params,
+            output_type,
+            docs,
+            attrs,
         })
     }
 }

@@ -72,3 +72,16 @@ impl LifetimeEnv {
         })
     }
 }
+
+/// A copy of a declaration's name and of its lifetimes, which is equal to them.
+pub(crate) fn clone_head(
+    alloc: Global,
+    name: &Text,
+    lifetimes: &LifetimeEnv,
+) -> Result<(Text, LifetimeEnv), NoMemory>
+    ensures { IfOk result (λ copy. copy ≡ (name.now, lifetimes.now)) }
+{
+    let name = name.try_clone(alloc)?;
+    let lifetimes = lifetimes.try_clone(alloc)?;
+    Ok((name, lifetimes))
+}

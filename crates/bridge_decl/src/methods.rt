@@ -4,8 +4,8 @@ ghost use Rattle.std.specs.Prelude.{◌≡◌, IfOk};
 
 use crate::attrs::Attrs;
 use crate::clones::{clone_items, clone_option};
-use crate::docs::Docs;
-use crate::lifetimes::{Lifetime, LifetimeEnv};
+use crate::docs::{Docs, clone_notes};
+use crate::lifetimes::{Lifetime, LifetimeEnv, clone_head};
 use crate::paths::PathType;
 use crate::text::{NoMemory, Text};
 use crate::types::{Mutability, TypeName, clone_borrow};
@@ -40,17 +40,38 @@ impl Method {
     pub fn try_clone(&self, alloc: Global) -> Result<Method, NoMemory>
         ensures { IfOk result (λ copy. copy ≡ self.now) }
     {
+        let (name, lifetime_env) = clone_head(alloc, &self.name, &self.lifetime_env)?;
+        let (abi_name, self_type) = self.clone_owner(alloc)?;
+        let params = clone_items(alloc, &self.params, Param::try_clone)?;
+        let (docs, attrs) = clone_notes(alloc, &self.docs, &self.attrs)?;
+        let (self_param, return_type) = self.clone_ends(alloc)?;
         Ok(Method {
-            name: self.name.try_clone(alloc)?,
-            abi_name: self.abi_name.try_clone(alloc)?,
-            self_type: self.self_type.try_clone(alloc)?,
-            self_param: clone_option(alloc, &self.self_param, SelfParam::try_clone)?,
-            lifetime_env: self.lifetime_env.try_clone(alloc)?,
-            params: clone_items(alloc, &self.params, Param::try_clone)?,
-            return_type: clone_option(alloc, &self.return_type, TypeName::try_clone)?,
-            docs: self.docs.try_clone(alloc)?,
-            attrs: self.attrs.try_clone(alloc)?,
+            name,
+            abi_name,
+            self_type,
+            self_param,
+            lifetime_env,
+            params,
+            return_type,
+            docs,
+            attrs,
         })
+    }
+
+    fn clone_owner(&self, alloc: Global) -> Result<(Text, PathType), NoMemory>
+        ensures { IfOk result (λ copy. copy ≡ (self.now.abi_name, self.now.self_type)) }
+    {
+        let abi_name = self.abi_name.try_clone(alloc)?;
+        let self_type = self.self_type.try_clone(alloc)?;
+        Ok((abi_name, self_type))
+    }
+
+    fn clone_ends(&self, alloc: Global) -> Result<(Option<SelfParam>, Option<TypeName>), NoMemory>
+        ensures { IfOk result (λ copy. copy ≡ (self.now.self_param, self.now.return_type)) }
+    {
+        let self_param = clone_option(alloc, &self.self_param, SelfParam::try_clone)?;
+        let return_type = clone_option(alloc, &self.return_type, TypeName::try_clone)?;
+        Ok((self_param, return_type))
     }
 }
 
@@ -70,11 +91,10 @@ impl Param {
     pub fn try_clone(&self, alloc: Global) -> Result<Param, NoMemory>
         ensures { IfOk result (λ copy. copy ≡ self.now) }
     {
-        Ok(Param {
-            name: self.name.try_clone(alloc)?,
-            ty: self.ty.try_clone(alloc)?,
-            attrs: self.attrs.try_clone(alloc)?,
-        })
+        let name = self.name.try_clone(alloc)?;
+        let attrs = self.attrs.try_clone(alloc)?;
+        let ty = self.ty.try_clone(alloc)?;
+        Ok(Param { name, ty, attrs })
     }
 }
 
@@ -94,10 +114,13 @@ impl SelfParam {
     pub fn try_clone(&self, alloc: Global) -> Result<SelfParam, NoMemory>
         ensures { IfOk result (λ copy. copy ≡ self.now) }
     {
+        let path_type = self.path_type.try_clone(alloc)?;
+        let attrs = self.attrs.try_clone(alloc)?;
+        let reference = clone_option(alloc, &self.reference, clone_borrow)?;
         Ok(SelfParam {
-            reference: clone_option(alloc, &self.reference, clone_borrow)?,
-            path_type: self.path_type.try_clone(alloc)?,
-            attrs: self.attrs.try_clone(alloc)?,
+            reference,
+            path_type,
+            attrs,
         })
     }
 }

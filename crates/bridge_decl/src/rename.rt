@@ -57,7 +57,8 @@ impl RenameAttr {
         ensures ok { IfOk result (λ attr. attr ≡ Some pattern.now) }
         ensures once { OnOk result (placeholder_count pattern.now ≤ 1) }
         ensures twice { IsErrOf result RenameFault.Pattern ↔ (1 < placeholder_count pattern.now) }
-        ensures no_memory { IsErrOf result RenameFault.NoMemory → placeholder_count pattern.now ≤ 1 }
+        ensures no_memory { IsErrOf result RenameFault.NoMemory
+            → placeholder_count pattern.now ≤ 1 }
     {
         if has_two_placeholders(pattern) {
             return Err(RenameFault::Pattern);

@@ -4,8 +4,8 @@ ghost use Rattle.std.specs.Prelude.{◌≡◌, IfOk};
 
 use crate::attrs::Attrs;
 use crate::clones::clone_items;
-use crate::docs::Docs;
-use crate::lifetimes::LifetimeEnv;
+use crate::docs::{Docs, clone_notes};
+use crate::lifetimes::{LifetimeEnv, clone_head};
 use crate::methods::Method;
 use crate::text::{NoMemory, Text};
 use crate::types::{Mutability, TypeName};
@@ -36,14 +36,18 @@ impl Struct {
     pub fn try_clone(&self, alloc: Global) -> Result<Struct, NoMemory>
         ensures { IfOk result (λ copy. copy ≡ self.now) }
     {
+        let (name, lifetimes) = clone_head(alloc, &self.name, &self.lifetimes)?;
+        let fields = clone_items(alloc, &self.fields, Field::try_clone)?;
+        let methods = clone_items(alloc, &self.methods, Method::try_clone)?;
+        let (docs, attrs) = clone_notes(alloc, &self.docs, &self.attrs)?;
         Ok(Struct {
-            name: self.name.try_clone(alloc)?,
-            lifetimes: self.lifetimes.try_clone(alloc)?,
-            fields: clone_items(alloc, &self.fields, Field::try_clone)?,
-            methods: clone_items(alloc, &self.methods, Method::try_clone)?,
+            name,
+            lifetimes,
+            fields,
+            methods,
             output_only: self.output_only,
-            docs: self.docs.try_clone(alloc)?,
-            attrs: self.attrs.try_clone(alloc)?,
+            docs,
+            attrs,
         })
     }
 }
@@ -66,11 +70,14 @@ impl Field {
     pub fn try_clone(&self, alloc: Global) -> Result<Field, NoMemory>
         ensures { IfOk result (λ copy. copy ≡ self.now) }
     {
+        let name = self.name.try_clone(alloc)?;
+        let (docs, attrs) = clone_notes(alloc, &self.docs, &self.attrs)?;
+        let ty = self.ty.try_clone(alloc)?;
         Ok(Field {
-            name: self.name.try_clone(alloc)?,
-            ty: self.ty.try_clone(alloc)?,
-            docs: self.docs.try_clone(alloc)?,
-            attrs: self.attrs.try_clone(alloc)?,
+            name,
+            ty,
+            docs,
+            attrs,
         })
     }
 }
@@ -99,14 +106,18 @@ impl OpaqueType {
     pub fn try_clone(&self, alloc: Global) -> Result<OpaqueType, NoMemory>
         ensures { IfOk result (λ copy. copy ≡ self.now) }
     {
+        let (name, lifetimes) = clone_head(alloc, &self.name, &self.lifetimes)?;
+        let methods = clone_items(alloc, &self.methods, Method::try_clone)?;
+        let dtor_abi_name = self.dtor_abi_name.try_clone(alloc)?;
+        let (docs, attrs) = clone_notes(alloc, &self.docs, &self.attrs)?;
         Ok(OpaqueType {
-            name: self.name.try_clone(alloc)?,
-            lifetimes: self.lifetimes.try_clone(alloc)?,
+            name,
+            lifetimes,
             mutability: self.mutability,
-            methods: clone_items(alloc, &self.methods, Method::try_clone)?,
-            dtor_abi_name: self.dtor_abi_name.try_clone(alloc)?,
-            docs: self.docs.try_clone(alloc)?,
-            attrs: self.attrs.try_clone(alloc)?,
+            methods,
+            dtor_abi_name,
+            docs,
+            attrs,
         })
     }
 }

@@ -4,8 +4,8 @@ ghost use Rattle.std.specs.Prelude.{◌≡◌, IfOk};
 
 use crate::attrs::Attrs;
 use crate::clones::{clone_items, clone_option};
-use crate::docs::Docs;
-use crate::lifetimes::{Lifetime, LifetimeEnv};
+use crate::docs::{Docs, clone_notes};
+use crate::lifetimes::{Lifetime, LifetimeEnv, clone_head};
 use crate::methods::Param;
 use crate::paths::PathType;
 use crate::text::{NoMemory, Text};
@@ -37,14 +37,17 @@ impl Trait {
     pub fn try_clone(&self, alloc: Global) -> Result<Trait, NoMemory>
         ensures { IfOk result (λ copy. copy ≡ self.now) }
     {
+        let (name, lifetimes) = clone_head(alloc, &self.name, &self.lifetimes)?;
+        let methods = clone_items(alloc, &self.methods, TraitMethod::try_clone)?;
+        let (docs, attrs) = clone_notes(alloc, &self.docs, &self.attrs)?;
         Ok(Trait {
-            name: self.name.try_clone(alloc)?,
-            lifetimes: self.lifetimes.try_clone(alloc)?,
-            methods: clone_items(alloc, &self.methods, TraitMethod::try_clone)?,
+            name,
+            lifetimes,
+            methods,
             is_send: self.is_send,
             is_sync: self.is_sync,
-            docs: self.docs.try_clone(alloc)?,
-            attrs: self.attrs.try_clone(alloc)?,
+            docs,
+            attrs,
         })
     }
 }
@@ -73,14 +76,19 @@ impl TraitMethod {
     pub fn try_clone(&self, alloc: Global) -> Result<TraitMethod, NoMemory>
         ensures { IfOk result (λ copy. copy ≡ self.now) }
     {
+        let (name, lifetimes) = clone_head(alloc, &self.name, &self.lifetimes)?;
+        let params = clone_items(alloc, &self.params, Param::try_clone)?;
+        let (docs, attrs) = clone_notes(alloc, &self.docs, &self.attrs)?;
+        let self_param = clone_option(alloc, &self.self_param, TraitSelfParam::try_clone)?;
+        let output_type = clone_option(alloc, &self.output_type, TypeName::try_clone)?;
         Ok(TraitMethod {
-            name: self.name.try_clone(alloc)?,
-            lifetimes: self.lifetimes.try_clone(alloc)?,
-            self_param: clone_option(alloc, &self.self_param, TraitSelfParam::try_clone)?,
-            params: clone_items(alloc, &self.params, Param::try_clone)?,
-            output_type: clone_option(alloc, &self.output_type, TypeName::try_clone)?,
-            docs: self.docs.try_clone(alloc)?,
-            attrs: self.attrs.try_clone(alloc)?,
+            name,
+            lifetimes,
+            self_param,
+            params,
+            output_type,
+            docs,
+            attrs,
         })
     }
 }
@@ -99,9 +107,11 @@ impl TraitSelfParam {
     pub fn try_clone(&self, alloc: Global) -> Result<TraitSelfParam, NoMemory>
         ensures { IfOk result (λ copy. copy ≡ self.now) }
     {
+        let path_trait = self.path_trait.try_clone(alloc)?;
+        let reference = clone_option(alloc, &self.reference, clone_borrow)?;
         Ok(TraitSelfParam {
-            reference: clone_option(alloc, &self.reference, clone_borrow)?,
-            path_trait: self.path_trait.try_clone(alloc)?,
+            reference,
+            path_trait,
         })
     }
 }

@@ -51,10 +51,20 @@ fn patterns_are_applied_and_handed_on(rt: HostRuntime) -> Result<(), RenameFault
         assert_eq!(rt; attr.apply(rt.alloc(), "f")?.as_str(), renamed);
         assert!(rt; is_handed_on(rt.alloc(), &attr, is_kept)?);
     }
+    Ok(())
+}
+
+#[test]
+fn the_empty_attribute_changes_nothing(rt: HostRuntime) -> Result<(), NoMemory> {
     let empty = RenameAttr::empty();
     assert!(rt; empty.is_empty());
     assert_eq!(rt; empty.apply(rt.alloc(), "f")?.as_str(), "f");
     assert!(rt; is_handed_on(rt.alloc(), &empty, true)?);
+    Ok(())
+}
+
+#[test]
+fn a_name_is_filled_in_once(rt: HostRuntime) -> Result<(), RenameFault> {
     let attr = RenameAttr::new(rt.alloc(), "a{0}b")?;
     assert_eq!(rt; attr.apply(rt.alloc(), "{0}")?.as_str(), "a{0}b");
     Ok(())

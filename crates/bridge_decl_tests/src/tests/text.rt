@@ -4,6 +4,7 @@ ghost use Rattle.std.specs.Cmp.Lexicographic.{slice_cmp};
 ghost use Rattle.std.specs.Ordering.{nat_cmp};
 
 use bridge_decl::{NoMemory, Text};
+use std::alloc::Global;
 use std::cmp::Ordering;
 use std::collections::BTreeMap;
 
@@ -37,22 +38,52 @@ fn is_known(places: &BTreeMap<Text, usize>, text: &Text) -> bool
     places.contains_key(text)
 }
 
+// Takes each text for its place in turn; whether the map had for each what stands with it.
+fn had(
+    alloc: Global,
+    places: &mut BTreeMap<Text, usize>,
+    rows: &[(&str, usize, Option<usize>)],
+) -> Result<bool, NoMemory> {
+    for (text, place, before) in rows {
+        let text = Text::new(alloc, text)?;
+        if remember(places, text, *place)? != *before {
+            return Ok(false);
+        }
+    }
+    Ok(true)
+}
+
+// Whether the text has that place in the map, by both look-ups.
+fn stands_at(
+    alloc: Global,
+    places: &BTreeMap<Text, usize>,
+    text: &str,
+    place: Option<usize>,
+) -> Result<bool, NoMemory> {
+    let text = Text::new(alloc, text)?;
+    Ok(place_of(places, &text) == place && is_known(places, &text) == place.is_some())
+}
+
 #[test]
 fn texts_are_keys(rt: HostRuntime) -> Result<(), NoMemory> {
     let mut places = BTreeMap::new(rt.alloc());
-    for (place, name) in ["b", "ab", "", "a"].iter().enumerate() {
-        let old = remember(&mut places, Text::new(rt.alloc(), name)?, place)?;
-        assert_eq!(rt; old, None);
+    let rows = [
+        ("b", 0, None),
+        ("ab", 1, None),
+        ("", 2, None),
+        ("a", 3, None),
+        ("ab", 9, Some(1)),
+    ];
+    assert!(rt; had(rt.alloc(), &mut places, &rows)?);
+    let found = [
+        ("ab", Some(9)),
+        ("abc", None),
+        ("", Some(2)),
+        ("b", Some(0)),
+    ];
+    for (text, place) in found {
+        assert!(rt; stands_at(rt.alloc(), &places, text, place)?);
     }
-    let ab = Text::new(rt.alloc(), "ab")?;
-    let abc = Text::new(rt.alloc(), "abc")?;
-    assert_eq!(rt; place_of(&places, &ab), Some(1));
-    assert_eq!(rt; place_of(&places, &abc), None);
-    assert!(rt; is_known(&places, &ab));
-    assert!(rt; !is_known(&places, &abc));
-    let old = remember(&mut places, ab.try_clone(rt.alloc())?, 9)?;
-    assert_eq!(rt; old, Some(1));
-    assert_eq!(rt; place_of(&places, &ab), Some(9));
     Ok(())
 }
 
@@ -73,6 +104,11 @@ fn texts_compare_by_bytes(rt: HostRuntime) -> Result<(), NoMemory> {
         assert_eq!(rt; first == second, order.is_eq());
         assert_eq!(rt; first < second, order.is_lt());
     }
+    Ok(())
+}
+
+#[test]
+fn texts_are_copied_and_printed(rt: HostRuntime) -> Result<(), NoMemory> {
     let text = Text::new(rt.alloc(), "na\u{ef}ve")?;
     assert_eq!(rt; text.try_clone(rt.alloc())?.as_str(), "naïve");
     assert_eq!(rt; text.to_string(rt.alloc())?.as_str(), "naïve");

@@ -1,5 +1,0 @@
-use Rattle.bridge_decl.proofs.structs.Field.try_clone.Goals as goal
-
-pub returns : goal.returns
-returns c =
-    rw (c.in_ok-try_clone.ensures, c.in_ok-try_clone-2.ensures, c.in_ok-try_clone-3.ensures, c.in_ok-try_clone-4.ensures)
