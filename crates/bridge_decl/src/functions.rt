@@ -3,10 +3,10 @@
 ghost use Rattle.std.specs.Prelude.{◌≡◌, IfOk};
 
 use crate::attrs::Attrs;
-use crate::clones::{clone_items, clone_option};
-use crate::docs::{Docs, clone_notes};
+use crate::clones::clone_items;
+use crate::docs::Docs;
 use crate::lifetimes::{LifetimeEnv, clone_head};
-use crate::methods::Param;
+use crate::methods::{Param, clone_tail};
 use crate::text::{NoMemory, Text};
 use crate::types::TypeName;
 use sqlite_items::Items;
@@ -39,8 +39,12 @@ impl Function {
         let (name, lifetimes) = clone_head(alloc, &self.name, &self.lifetimes)?;
         let abi_name = self.abi_name.try_clone(alloc)?;
         let params = clone_items(alloc, &self.params, Param::try_clone)?;
-        let (docs, attrs) = clone_notes(alloc, &self.docs, &self.attrs)?;
-        let output_type = clone_option(alloc, &self.output_type, TypeName::try_clone)?;
+        let (docs, attrs, output_type) = clone_tail(
+            alloc,
+            &self.docs,
+            &self.attrs,
+            &self.output_type,
+        )?;
         Ok(Function {
             name,
             abi_name,

@@ -41,10 +41,14 @@ impl Method {
         ensures { IfOk result (λ copy. copy ≡ self.now) }
     {
         let (name, lifetime_env) = clone_head(alloc, &self.name, &self.lifetime_env)?;
-        let (abi_name, self_type) = self.clone_owner(alloc)?;
         let params = clone_items(alloc, &self.params, Param::try_clone)?;
-        let (docs, attrs) = clone_notes(alloc, &self.docs, &self.attrs)?;
-        let (self_param, return_type) = self.clone_ends(alloc)?;
+        let (abi_name, self_type, self_param) = self.clone_owner(alloc)?;
+        let (docs, attrs, return_type) = clone_tail(
+            alloc,
+            &self.docs,
+            &self.attrs,
+            &self.return_type,
+        )?;
         Ok(Method {
             name,
             abi_name,
@@ -58,20 +62,14 @@ impl Method {
         })
     }
 
-    fn clone_owner(&self, alloc: Global) -> Result<(Text, PathType), NoMemory>
-        ensures { IfOk result (λ copy. copy ≡ (self.now.abi_name, self.now.self_type)) }
+    fn clone_owner(&self, alloc: Global) -> Result<(Text, PathType, Option<SelfParam>), NoMemory>
+        ensures { IfOk result (λ copy.
+            copy ≡ (self.now.abi_name, self.now.self_type, self.now.self_param)) }
     {
         let abi_name = self.abi_name.try_clone(alloc)?;
         let self_type = self.self_type.try_clone(alloc)?;
-        Ok((abi_name, self_type))
-    }
-
-    fn clone_ends(&self, alloc: Global) -> Result<(Option<SelfParam>, Option<TypeName>), NoMemory>
-        ensures { IfOk result (λ copy. copy ≡ (self.now.self_param, self.now.return_type)) }
-    {
         let self_param = clone_option(alloc, &self.self_param, SelfParam::try_clone)?;
-        let return_type = clone_option(alloc, &self.return_type, TypeName::try_clone)?;
-        Ok((self_param, return_type))
+        Ok((abi_name, self_type, self_param))
     }
 }
 
@@ -114,13 +112,26 @@ impl SelfParam {
     pub fn try_clone(&self, alloc: Global) -> Result<SelfParam, NoMemory>
         ensures { IfOk result (λ copy. copy ≡ self.now) }
     {
-        let path_type = self.path_type.try_clone(alloc)?;
-        let attrs = self.attrs.try_clone(alloc)?;
-        let reference = clone_option(alloc, &self.reference, clone_borrow)?;
         Ok(SelfParam {
-            reference,
-            path_type,
-            attrs,
+            reference: clone_option(alloc, &self.reference, clone_borrow)?,
+            path_type: self.path_type.try_clone(alloc)?,
+            attrs: self.attrs.try_clone(alloc)?,
         })
     }
+}
+
+/// A copy of what documents and marks a signature and of what it returns, which is equal to them.
+// Where a copy fails, what was copied before it is let go, arm by arm if it is a type or has attributes. So these are copied
+// last, and here for all signatures.
+pub(crate) fn clone_tail(
+    alloc: Global,
+    docs: &Docs,
+    attrs: &Attrs,
+    output: &Option<TypeName>,
+) -> Result<(Docs, Attrs, Option<TypeName>), NoMemory>
+    ensures { IfOk result (λ copy. copy ≡ (docs.now, attrs.now, output.now)) }
+{
+    let (docs, attrs) = clone_notes(alloc, docs, attrs)?;
+    let output = clone_option(alloc, output, TypeName::try_clone)?;
+    Ok((docs, attrs, output))
 }

@@ -6,7 +6,7 @@ use crate::attrs::Attrs;
 use crate::clones::{clone_items, clone_option};
 use crate::docs::{Docs, clone_notes};
 use crate::lifetimes::{Lifetime, LifetimeEnv, clone_head};
-use crate::methods::Param;
+use crate::methods::{Param, clone_tail};
 use crate::paths::PathType;
 use crate::text::{NoMemory, Text};
 use crate::types::{Mutability, TypeName, clone_borrow};
@@ -78,9 +78,13 @@ impl TraitMethod {
     {
         let (name, lifetimes) = clone_head(alloc, &self.name, &self.lifetimes)?;
         let params = clone_items(alloc, &self.params, Param::try_clone)?;
-        let (docs, attrs) = clone_notes(alloc, &self.docs, &self.attrs)?;
         let self_param = clone_option(alloc, &self.self_param, TraitSelfParam::try_clone)?;
-        let output_type = clone_option(alloc, &self.output_type, TypeName::try_clone)?;
+        let (docs, attrs, output_type) = clone_tail(
+            alloc,
+            &self.docs,
+            &self.attrs,
+            &self.output_type,
+        )?;
         Ok(TraitMethod {
             name,
             lifetimes,

@@ -138,8 +138,8 @@ impl TypeName {
             TypeName::SelfType(path) => Ok(TypeName::SelfType(path.try_clone(alloc)?)),
             TypeName::ImplTrait(path) => Ok(TypeName::ImplTrait(path.try_clone(alloc)?)),
             TypeName::Reference(lifetime, mutability, inner) => {
-                let inner = TypeName::clone_boxed(alloc, inner)?;
                 let lifetime = lifetime.try_clone(alloc)?;
+                let inner = TypeName::clone_boxed(alloc, inner)?;
                 Ok(TypeName::Reference(lifetime, *mutability, inner))
             }
             TypeName::Box(inner) => Ok(TypeName::Box(TypeName::clone_boxed(alloc, inner)?)),
@@ -163,8 +163,8 @@ impl TypeName {
                 Ok(TypeName::PrimitiveSlice(borrow, *primitive, *spelling))
             }
             TypeName::CustomTypeSlice(borrow, element, spelling) => {
-                let element = TypeName::clone_boxed(alloc, element)?;
                 let borrow = clone_option(alloc, borrow, clone_borrow)?;
+                let element = TypeName::clone_boxed(alloc, element)?;
                 Ok(TypeName::CustomTypeSlice(borrow, element, *spelling))
             }
             TypeName::Function(inputs, output, mutability) => {
