@@ -43,10 +43,9 @@ impl DocBlock {
     pub fn try_clone(&self, alloc: Global) -> Result<DocBlock, NoMemory>
         ensures { IfOk result (λ copy. copy ≡ self.now) }
     {
-        Ok(DocBlock {
-            cfg: self.cfg.try_clone(alloc)?,
-            lines: self.lines.try_clone(alloc)?,
-        })
+        let lines = self.lines.try_clone(alloc)?;
+        let cfg = self.cfg.try_clone(alloc)?;
+        Ok(DocBlock { cfg, lines })
     }
 }
 

@@ -30,11 +30,15 @@ impl Module {
     pub fn try_clone(&self, alloc: Global) -> Result<Module, NoMemory>
         ensures { IfOk result (λ copy. copy ≡ self.now) }
     {
+        let path = clone_texts(alloc, &self.path)?;
+        let items = clone_items(alloc, &self.items, Item::try_clone)?;
+        let aliases = clone_items(alloc, &self.aliases, Alias::try_clone)?;
+        let attrs = self.attrs.try_clone(alloc)?;
         Ok(Module {
-            path: clone_texts(alloc, &self.path)?,
-            attrs: self.attrs.try_clone(alloc)?,
-            items: clone_items(alloc, &self.items, Item::try_clone)?,
-            aliases: clone_items(alloc, &self.aliases, Alias::try_clone)?,
+            path,
+            attrs,
+            items,
+            aliases,
         })
     }
 }
