@@ -24,49 +24,55 @@ pub fn docs(alloc: Global) -> Docs {
     }
 }
 
-pub fn texts(alloc: Global, segments: &[&str]) -> Result<Items<Text>, Fail> {
+/// The segments of a path, with colons between them.
+fn texts(alloc: Global, path: &str) -> Result<Items<Text>, Fail> {
     let mut made = Items::new(alloc);
-    for segment in segments {
-        made.push(Text::new(alloc, segment)?)?;
+    for segment in path.split(':') {
+        if !segment.is_empty() {
+            made.push(Text::new(alloc, segment)?)?;
+        }
     }
     Ok(made)
 }
 
-pub fn path_of(alloc: Global, segments: &[&str]) -> Result<PathType, Fail> {
+fn path_of(alloc: Global, path: &str) -> Result<PathType, Fail> {
     Ok(PathType {
-        segments: texts(alloc, segments)?,
+        segments: texts(alloc, path)?,
         lifetimes: Items::new(alloc),
     })
 }
 
-/// An item that declares nothing: a trait where the name begins with `T`, an opaque with `O`, else an enum.
-fn item(alloc: Global, name: &str) -> Result<Item, Fail> {
-    if name.starts_with('T') {
-        return Ok(Item::Trait(Trait {
-            name: Text::new(alloc, name)?,
-            lifetimes: LifetimeEnv {
-                nodes: Items::new(alloc),
-            },
-            methods: Items::new(alloc),
-            is_send: false,
-            is_sync: false,
-            docs: docs(alloc),
-            attrs: attrs(alloc),
-        }));
+fn no_lifetimes(alloc: Global) -> LifetimeEnv {
+    LifetimeEnv {
+        nodes: Items::new(alloc),
     }
-    if name.starts_with('O') {
-        return Ok(Item::Opaque(OpaqueType {
-            name: Text::new(alloc, name)?,
-            lifetimes: LifetimeEnv {
-                nodes: Items::new(alloc),
-            },
-            mutability: Mutability::Immutable,
-            methods: Items::new(alloc),
-            dtor_abi_name: Text::new(alloc, name)?,
-            docs: docs(alloc),
-            attrs: attrs(alloc),
-        }));
-    }
+}
+
+fn trait_of(alloc: Global, name: &str) -> Result<Item, Fail> {
+    Ok(Item::Trait(Trait {
+        name: Text::new(alloc, name)?,
+        lifetimes: no_lifetimes(alloc),
+        methods: Items::new(alloc),
+        is_send: false,
+        is_sync: false,
+        docs: docs(alloc),
+        attrs: attrs(alloc),
+    }))
+}
+
+fn opaque_of(alloc: Global, name: &str) -> Result<Item, Fail> {
+    Ok(Item::Opaque(OpaqueType {
+        name: Text::new(alloc, name)?,
+        lifetimes: no_lifetimes(alloc),
+        mutability: Mutability::Immutable,
+        methods: Items::new(alloc),
+        dtor_abi_name: Text::new(alloc, name)?,
+        docs: docs(alloc),
+        attrs: attrs(alloc),
+    }))
+}
+
+fn enum_of(alloc: Global, name: &str) -> Result<Item, Fail> {
     Ok(Item::Enum(Enum {
         name: Text::new(alloc, name)?,
         variants: Items::new(alloc),
@@ -76,42 +82,80 @@ fn item(alloc: Global, name: &str) -> Result<Item, Fail> {
     }))
 }
 
-pub fn items(alloc: Global, names: &[&str]) -> Result<Items<Item>, Fail> {
+/// An item that declares nothing: a trait where the name begins with `T`, an opaque with `O`, else an enum.
+fn item(alloc: Global, name: &str) -> Result<Item, Fail> {
+    if name.starts_with('T') {
+        return trait_of(alloc, name);
+    }
+    if name.starts_with('O') {
+        return opaque_of(alloc, name);
+    }
+    enum_of(alloc, name)
+}
+
+/// Items of these names.
+pub fn items(alloc: Global, names: &str) -> Result<Items<Item>, Fail> {
     let mut made = Items::new(alloc);
-    for name in names {
+    for name in names.split_whitespace() {
         made.push(item(alloc, name)?)?;
     }
     Ok(made)
 }
 
-fn aliases(alloc: Global, pairs: &[(&str, &[&str])]) -> Result<Items<Alias>, Fail> {
+/// An alias, as its name, `=` and its target.
+fn alias(alloc: Global, written: &str) -> Result<Alias, Fail> {
+    let mut sides = written.split('=');
+    Ok(Alias {
+        name: Text::new(alloc, sides.next().unwrap_or(""))?,
+        target: texts(alloc, sides.next().unwrap_or(""))?,
+    })
+}
+
+fn aliases(alloc: Global, written: &str) -> Result<Items<Alias>, Fail> {
     let mut made = Items::new(alloc);
-    for (name, target) in pairs {
-        made.push(Alias {
-            name: Text::new(alloc, name)?,
-            target: texts(alloc, target)?,
-        })?;
+    for one in written.split_whitespace() {
+        made.push(alias(alloc, one)?)?;
     }
     Ok(made)
 }
 
 /// The path of a module, the names of its items, and its aliases with their targets.
-pub type Declared = (
-    &'static [&'static str],
-    &'static [&'static str],
-    &'static [(&'static str, &'static [&'static str])],
-);
+pub type Declared = (&'static str, &'static str, &'static str);
+
+/// A module of these parts.
+fn module_of(
+    alloc: Global,
+    path: Items<Text>,
+    items: Items<Item>,
+    aliases: Items<Alias>,
+) -> Module {
+    Module {
+        path,
+        attrs: attrs(alloc),
+        items,
+        aliases,
+    }
+}
+
+fn module(alloc: Global, declared: &Declared) -> Result<Module, Fail> {
+    let path = texts(alloc, declared.0)?;
+    let items = items(alloc, declared.1)?;
+    let aliases = aliases(alloc, declared.2)?;
+    Ok(module_of(alloc, path, items, aliases))
+}
 
 pub fn modules(alloc: Global, declared: &[Declared]) -> Result<Vec<Module>, Fail> {
     let mut made = Vec::new(alloc);
-    for (path, names, pairs) in declared {
-        made.push(Module {
-            path: texts(alloc, path)?,
-            attrs: attrs(alloc),
-            items: items(alloc, names)?,
-            aliases: aliases(alloc, pairs)?,
-        })?;
+    for one in declared {
+        made.push(module(alloc, one)?)?;
     }
+    Ok(made)
+}
+
+/// The root with these items and aliases.
+pub fn root(alloc: Global, items: Items<Item>, aliases: Items<Alias>) -> Result<Vec<Module>, Fail> {
+    let mut made = Vec::new(alloc);
+    made.push(module_of(alloc, Items::new(alloc), items, aliases))?;
     Ok(made)
 }
 
@@ -125,9 +169,39 @@ pub fn fault_of(made: Result<Env, EnvFault>) -> Option<Expected> {
     }
 }
 
-pub fn type_place(found: Option<CustomType>) -> Option<(usize, usize)> {
+fn type_place(found: Option<CustomType>) -> Option<(usize, usize)> {
     match found? {
         CustomType::Struct(_, place) | CustomType::Opaque(_, place) | CustomType::Enum(_, place) =>
             Some((place.module, place.item)),
     }
+}
+
+/// The place of the type that a path names, read in the module of a number.
+pub fn type_at(
+    alloc: Global,
+    env: &Env,
+    in_module: usize,
+    path: &str,
+) -> Result<Option<(usize, usize)>, Fail> {
+    if in_module >= env.modules().len() {
+        return Err(Fail::from("there is no such module"));
+    }
+    Ok(type_place(env.resolve(in_module, &path_of(alloc, path)?)))
+}
+
+/// The place of the trait that a path names, read in the module of a number.
+pub fn trait_at(
+    alloc: Global,
+    env: &Env,
+    in_module: usize,
+    path: &str,
+) -> Result<Option<(usize, usize)>, Fail> {
+    if in_module >= env.modules().len() {
+        return Err(Fail::from("there is no such module"));
+    }
+    let path = path_of(alloc, path)?;
+    Ok(
+        env.resolve_trait(in_module, &path)
+            .map(|found| (found.place.module, found.place.item)),
+    )
 }

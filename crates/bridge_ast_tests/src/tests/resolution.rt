@@ -1,219 +1,57 @@
 //! What paths name.
 
-ghost use Rattle.std.specs.Prelude.{◌<◌, length};
-
-use super::declared::{Declared, modules, path_of, type_place};
-use bridge_ast::{Env, ItemPlace, PathType};
+use super::declared::{Declared, modules, trait_at, type_at};
+use bridge_ast::Env;
+use std::alloc::Global;
+use std::process::Abort;
 use std::test::Fail;
 
-/// A path by the module in which it is read, and the number of the module and of the item that it names, worked out by hand.
-type Row = (usize, &'static [&'static str], Option<(usize, usize)>);
+/// Paths by the module in which they are read, and the number of the module and of the item that each names, worked out by hand.
+type Row = (usize, &'static str, Option<(usize, usize)>);
 
 const DECLARED: [Declared; 3] = [
     (
-        &[],
-        &["R", "T", "O"],
-        &[
-            ("a", &["m"]),
-            ("b", &["a"]),
-            ("c", &["b", "X"]),
-            ("x", &["y"]),
-            ("y", &["x"]),
-            ("k", &["m", "k"]),
-            ("trait", &["self", "T"]),
-            ("nothing", &[]),
-        ],
+        "",
+        "R T O",
+        "a=m b=a c=b::X x=y y=x k=m::k trait=self::T nothing=",
     ),
-    (
-        &["m"],
-        &["X", "k"],
-        &[
-            ("back", &["super", "R"]),
-            ("top", &["super", "super", "R"]),
-            ("s", &["X"]),
-            ("up", &["super"]),
-        ],
-    ),
-    (&["m", "n"], &["Y"], &[("here", &["super"])]),
+    ("m", "X k", "back=super::R top=super::super::R s=X up=super"),
+    ("m::n", "Y", "here=super"),
 ];
 
-/// Paths to types.
-const PATHS: [Row; 31] = [
-    (0, &["R"], Some((0, 0))),
-    (0, &["O"], Some((0, 2))),
-    (0, &["T"], None),
-    (0, &["trait"], None),
-    (0, &["a", "X"], Some((1, 0))),
-    (0, &["b", "X"], Some((1, 0))),
-    (0, &["c"], Some((1, 0))),
-    (0, &["x"], None),
-    (0, &["x", "R"], None),
-    (0, &["k"], Some((1, 1))),
-    (0, &["nothing"], None),
-    (0, &["nothing", "crate", "R"], Some((0, 0))),
-    (0, &["m", "s"], Some((1, 0))),
-    (0, &["m"], None),
-    (0, &["R", "X"], None),
-    (0, &["super", "R"], None),
-    (0, &["crate", "super", "R"], None),
-    (0, &["Q"], None),
-    (0, &[], None),
-    (1, &["back"], Some((0, 0))),
-    (1, &["top"], None),
-    (1, &["super", "R"], Some((0, 0))),
-    (1, &["crate", "R"], Some((0, 0))),
-    (1, &["self", "X"], Some((1, 0))),
-    (1, &["n", "crate", "R"], None),
-    (1, &["n", "self", "Y"], None),
-    (1, &["up", "super", "R"], None),
-    (1, &["n", "Y"], Some((2, 0))),
-    (2, &["super", "super", "R"], Some((0, 0))),
-    (2, &["super", "up", "R"], Some((0, 0))),
-    (2, &["here", "super", "R"], Some((0, 0))),
+/// Paths to types. Two colons alone are the path without segments.
+const PATHS: [Row; 11] = [
+    (0, "R nothing::crate::R", Some((0, 0))),
+    (0, "O", Some((0, 2))),
+    (0, "a::X b::X c m::s", Some((1, 0))),
+    (0, "k", Some((1, 1))),
+    (0, "T trait x x::R nothing m R::X", None),
+    (0, "super::R crate::super::R Q ::", None),
+    (1, "back super::R crate::R", Some((0, 0))),
+    (1, "self::X", Some((1, 0))),
+    (1, "n::Y", Some((2, 0))),
+    (1, "top n::crate::R n::self::Y up::super::R", None),
+    (
+        2,
+        "super::super::R super::up::R here::super::R",
+        Some((0, 0)),
+    ),
 ];
+
+/// Paths to traits.
+const TRAITS: [Row; 2] = [(0, "trait T", Some((0, 1))), (0, "R", None)];
+
+fn environment(alloc: Global, declared: &[Declared]) -> Result<Env, Fail> {
+    Ok(Env::new(alloc, modules(alloc, declared)?)?)
+}
 
 #[test]
 fn types_that_paths_name(rt: HostRuntime) -> Result<(), Fail> {
-    let env = Env::new(rt.alloc(), modules(rt.alloc(), &DECLARED)?)?;
-    for (row, (in_module, segments, expected)) in PATHS.iter().enumerate() {
-        assert!(rt; *in_module < env.modules().len());
-        let path = path_of(rt.alloc(), segments)?;
-        assert_eq!(rt;
-            type_place(env.resolve(*in_module, &path)),
-            *expected,
-            "in row {row}"
-        );
-    }
-    Ok(())
-}
-
-/// Paths to types and traits, with cycles of aliases.
-const BRANCHED: [Declared; 3] = [
-    (
-        &[],
-        &["R", "T", "O"],
-        &[
-            ("in", &["m"]),
-            ("again", &["in"]),
-            ("item", &["R"]),
-            ("one", &["one"]),
-            ("two", &["owt"]),
-            ("owt", &["two"]),
-            ("x", &["y"]),
-            ("y", &["z"]),
-            ("z", &["x"]),
-            ("k", &["m", "k"]),
-            ("nothing", &[]),
-        ],
-    ),
-    (
-        &["m"],
-        &["X", "k"],
-        &[
-            ("up", &["super"]),
-            ("top", &["super", "super", "R"]),
-            ("root", &["crate", "R"]),
-            ("here", &["self", "X"]),
-        ],
-    ),
-    (&["m", "n"], &["Y"], &[]),
-];
-
-const BRANCHED_PATHS: [Row; 38] = [
-    (0, &[], None),
-    (0, &["R"], Some((0, 0))),
-    (0, &["T"], Some((0, 1))),
-    (0, &["O"], Some((0, 2))),
-    (0, &["m", "n", "Y"], Some((2, 0))),
-    // aliases into modules and of aliases
-    (0, &["in"], None),
-    (0, &["in", "X"], Some((1, 0))),
-    (0, &["again", "X"], Some((1, 0))),
-    (0, &["again", "n", "Y"], Some((2, 0))),
-    // cycles of one, two and three
-    (0, &["one"], None),
-    (0, &["one", "R"], None),
-    (0, &["two"], None),
-    (0, &["owt", "R"], None),
-    (0, &["x"], None),
-    (0, &["y", "R"], None),
-    // `super`, also above the root
-    (2, &["super", "super", "R"], Some((0, 0))),
-    (2, &["super", "super", "super", "R"], None),
-    (0, &["super", "R"], None),
-    (0, &["m", "up", "R"], Some((0, 0))),
-    (0, &["m", "up", "super", "R"], None),
-    (1, &["top"], None),
-    (0, &["crate", "super", "R"], None),
-    // `crate` and `self`, also in the middle
-    (2, &["crate", "R"], Some((0, 0))),
-    (1, &["self", "X"], Some((1, 0))),
-    (1, &["root"], Some((0, 0))),
-    (0, &["m", "here"], Some((1, 0))),
-    (0, &["m", "crate", "R"], None),
-    (0, &["m", "self", "X"], None),
-    (0, &["crate", "crate", "R"], None),
-    (0, &["self", "self", "R"], None),
-    // items that aren't the last segment
-    (0, &["R", "X"], None),
-    (0, &["item", "X"], None),
-    (0, &["item"], Some((0, 0))),
-    // an alias with the name of a segment of its target
-    (0, &["k"], Some((1, 1))),
-    // an alias whose target is empty
-    (0, &["nothing"], None),
-    (0, &["nothing", "R"], Some((0, 0))),
-    (0, &["nothing", "self", "R"], Some((0, 0))),
-    (1, &["super", "nothing", "m", "X"], Some((1, 0))),
-];
-
-/// `d3` takes seven alias steps: its own, those of two `d2`, and those of four `d1`.
-const DOUBLED: [Declared; 1] = [(
-    &[],
-    &["R"],
-    &[
-        ("d1", &["crate"]),
-        ("d2", &["d1", "d1"]),
-        ("d3", &["d2", "d2"]),
-        ("more", &[]),
-    ],
-)];
-
-const DOUBLED_PATHS: [Row; 4] = [
-    // one more than four aliases and two segments
-    (0, &["d3", "R"], None),
-    // as many as four aliases and three segments
-    (0, &["self", "d3", "R"], Some((0, 0))),
-    // eight, where four aliases and three segments allow seven, and eight with one segment more
-    (0, &["d3", "d1", "R"], None),
-    (0, &["self", "d3", "d1", "R"], Some((0, 0))),
-];
-
-/// The place of the type or trait that a path names.
-fn place_of(env: &Env, in_module: usize, path: &PathType) -> Option<(usize, usize)>
-    requires { in_module < length env.now }
-{
-    match env.resolve_trait(in_module, path) {
-        Some(found) => Some((found.place.module, found.place.item)),
-        None => type_place(env.resolve(in_module, path)),
-    }
-}
-
-#[test]
-fn types_and_traits_that_paths_name(rt: HostRuntime) -> Result<(), Fail> {
-    for (declared, rows) in [
-        (BRANCHED.as_slice(), BRANCHED_PATHS.as_slice()),
-        (DOUBLED.as_slice(), DOUBLED_PATHS.as_slice()),
-    ] {
-        let env = Env::new(rt.alloc(), modules(rt.alloc(), declared)?)?;
-        for (row, (in_module, segments, expected)) in rows.iter().enumerate() {
-            assert!(rt; *in_module < env.modules().len());
-            let path = path_of(rt.alloc(), segments)?;
-            assert_eq!(rt;
-                place_of(&env, *in_module, &path),
-                *expected,
-                "in row {row}"
-            );
+    let env = environment(rt.alloc(), &DECLARED)?;
+    for (in_module, paths, expected) in PATHS {
+        for path in paths.split_whitespace() {
+            let named = type_at(rt.alloc(), &env, in_module, path)?;
+            assert_eq!(rt; named, expected, "of {path} in {in_module}");
         }
     }
     Ok(())
@@ -221,15 +59,120 @@ fn types_and_traits_that_paths_name(rt: HostRuntime) -> Result<(), Fail> {
 
 #[test]
 fn traits_that_paths_name(rt: HostRuntime) -> Result<(), Fail> {
-    let env = Env::new(rt.alloc(), modules(rt.alloc(), &DECLARED)?)?;
-    assert!(rt; 2 < env.modules().len());
-    let expected = ItemPlace { module: 0, item: 1 };
-    for segments in [&["trait"].as_slice(), &["T"].as_slice()] {
-        let path = path_of(rt.alloc(), segments)?;
-        let found = env.resolve_trait(0, &path).ok_or("nothing")?;
-        assert_eq!(rt; found.place, expected);
+    let env = environment(rt.alloc(), &DECLARED)?;
+    for (in_module, paths, expected) in TRAITS {
+        for path in paths.split_whitespace() {
+            let named = trait_at(rt.alloc(), &env, in_module, path)?;
+            assert_eq!(rt; named, expected, "of {path} in {in_module}");
+        }
     }
-    let path = path_of(rt.alloc(), &["R"])?;
-    assert!(rt; env.resolve_trait(0, &path).is_none());
     Ok(())
+}
+
+#[test]
+fn as_many_modules_as_are_declared(rt: HostRuntime) -> Result<(), Fail> {
+    let env = environment(rt.alloc(), &DECLARED)?;
+    assert_eq!(rt; env.modules().len(), 3);
+    Ok(())
+}
+
+/// Modules with cycles of aliases.
+const BRANCHED: [Declared; 3] = [
+    (
+        "",
+        "R T O",
+        "in=m again=in item=R one=one two=owt owt=two x=y y=z z=x k=m::k nothing=",
+    ),
+    (
+        "m",
+        "X k",
+        "up=super top=super::super::R root=crate::R here=self::X",
+    ),
+    ("m::n", "Y", ""),
+];
+
+/// Paths to types and traits. Two colons alone are the path without segments.
+const BRANCHED_PATHS: [Row; 22] = [
+    (0, "::", None),
+    (0, "R", Some((0, 0))),
+    (0, "T", Some((0, 1))),
+    (0, "O", Some((0, 2))),
+    (0, "m::n::Y", Some((2, 0))),
+    // aliases into modules and of aliases
+    (0, "in", None),
+    (0, "in::X again::X", Some((1, 0))),
+    (0, "again::n::Y", Some((2, 0))),
+    // cycles of one, two and three
+    (0, "one one::R two owt::R x y::R", None),
+    // `super`, also above the root
+    (2, "super::super::R", Some((0, 0))),
+    (2, "super::super::super::R", None),
+    (0, "m::up::R", Some((0, 0))),
+    (0, "super::R m::up::super::R crate::super::R", None),
+    (1, "top", None),
+    // `crate` and `self`, also in the middle
+    (2, "crate::R", Some((0, 0))),
+    (1, "self::X super::nothing::m::X", Some((1, 0))),
+    (1, "root", Some((0, 0))),
+    (0, "m::here", Some((1, 0))),
+    (
+        0,
+        "m::crate::R m::self::X crate::crate::R self::self::R",
+        None,
+    ),
+    // items that aren't the last segment, and an alias whose target is empty
+    (0, "R::X item::X nothing", None),
+    (0, "item nothing::R nothing::self::R", Some((0, 0))),
+    // an alias with the name of a segment of its target
+    (0, "k", Some((1, 1))),
+];
+
+/// `d3` takes seven alias steps: its own, those of two `d2`, and those of four `d1`.
+const DOUBLED: [Declared; 1] = [("", "R", "d1=crate d2=d1::d1 d3=d2::d2 more=")];
+
+const DOUBLED_PATHS: [Row; 2] = [
+    // one more than four aliases and two segments; and eight, where four aliases and three segments allow seven
+    (0, "d3::R d3::d1::R", None),
+    // as many as four aliases and three segments; and eight with one segment more
+    (0, "self::d3::R self::d3::d1::R", Some((0, 0))),
+];
+
+/// The place of the type or trait that a path names.
+fn place_at(
+    alloc: Global,
+    env: &Env,
+    in_module: usize,
+    path: &str,
+) -> Result<Option<(usize, usize)>, Fail> {
+    match trait_at(alloc, env, in_module, path)? {
+        Some(place) => Ok(Some(place)),
+        None => type_at(alloc, env, in_module, path),
+    }
+}
+
+/// The paths of the rows name what the rows say, in an environment of these modules.
+fn rows_hold(
+    rt: &impl Abort,
+    alloc: Global,
+    declared: &[Declared],
+    rows: &[Row],
+) -> Result<(), Fail> {
+    let env = environment(alloc, declared)?;
+    for (in_module, paths, expected) in rows {
+        for path in paths.split_whitespace() {
+            let named = place_at(alloc, &env, *in_module, path)?;
+            assert_eq!(rt; named, *expected, "of {path} in {in_module}");
+        }
+    }
+    Ok(())
+}
+
+#[test]
+fn types_and_traits_that_paths_name(rt: HostRuntime) -> Result<(), Fail> {
+    rows_hold(&rt, rt.alloc(), &BRANCHED, &BRANCHED_PATHS)
+}
+
+#[test]
+fn paths_of_as_many_aliases_as_are_followed(rt: HostRuntime) -> Result<(), Fail> {
+    rows_hold(&rt, rt.alloc(), &DOUBLED, &DOUBLED_PATHS)
 }

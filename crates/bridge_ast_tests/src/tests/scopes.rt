@@ -7,21 +7,18 @@ use std::test::Fail;
 /// Modules, and their first fault.
 const NAMES: [(&[Declared], Option<Expected>); 9] = [
     (&[], None),
+    (&[("", "P Q", "R=P"), ("m", "P", "")], None),
     (
-        &[(&[], &["P", "Q"], &[("R", &["P"])]), (&["m"], &["P"], &[])],
-        None,
-    ),
-    (
-        &[(&["m", "n"], &[], &[])],
+        &[("m::n", "", "")],
         Some((EnvFaultKind::ParentMissing, ROOT, None)),
     ),
     // a parent that stands later
     (
-        &[(&[], &[], &[]), (&["m", "n"], &[], &[]), (&["m"], &[], &[])],
+        &[("", "", ""), ("m::n", "", ""), ("m", "", "")],
         Some((EnvFaultKind::ParentMissing, SECOND, None)),
     ),
     (
-        &[(&[], &["P", "P"], &[])],
+        &[("", "P P", "")],
         Some((
             EnvFaultKind::DuplicateItem,
             EnvPlace {
@@ -32,7 +29,7 @@ const NAMES: [(&[Declared], Option<Expected>); 9] = [
         )),
     ),
     (
-        &[(&[], &["P"], &[("a", &[]), ("P", &[])])],
+        &[("", "P", "a= P=")],
         Some((
             EnvFaultKind::DuplicateItem,
             EnvPlace {
@@ -43,7 +40,7 @@ const NAMES: [(&[Declared], Option<Expected>); 9] = [
         )),
     ),
     (
-        &[(&[], &["P"], &[("m", &[])]), (&["m"], &[], &[])],
+        &[("", "P", "m="), ("m", "", "")],
         Some((
             EnvFaultKind::DuplicateItem,
             SECOND,
@@ -55,10 +52,10 @@ const NAMES: [(&[Declared], Option<Expected>); 9] = [
     ),
     (
         &[
-            (&[], &[], &[]),
-            (&["m"], &[], &[]),
-            (&["m", "k"], &[], &[]),
-            (&["m"], &["P", "P"], &[]),
+            ("", "", ""),
+            ("m", "", ""),
+            ("m::k", "", ""),
+            ("m", "P P", ""),
         ],
         Some((
             EnvFaultKind::DuplicateModule,
@@ -71,7 +68,7 @@ const NAMES: [(&[Declared], Option<Expected>); 9] = [
     ),
     // two roots
     (
-        &[(&[], &[], &[]), (&[], &[], &[])],
+        &[("", "", ""), ("", "", "")],
         Some((EnvFaultKind::DuplicateModule, SECOND, Some(ROOT))),
     ),
 ];
