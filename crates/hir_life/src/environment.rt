@@ -166,7 +166,8 @@ impl LifetimeEnv {
     ) -> Result<LifetimeTransitivityIterator<'_>, NoMemory>
         requires { lt < self.now.count }
         ensures walk { IfOk result (λ walk. walk ≡ walk_from self.now Shorter lt) }
-        ensures converse { (l s : ℕ) → (Outlives (shorter_of self.now) s l ↔ Outlives (longer_of self.now) l s) }
+        ensures converse { (l s : ℕ)
+            → (Outlives (shorter_of self.now) s l ↔ Outlives (longer_of self.now) l s) }
     {
         LifetimeTransitivityIterator::new(alloc, self, Direction::Shorter, lt)
     }

@@ -17,23 +17,30 @@ use std::hash::Hash;
 /// A lifetime outlives itself, and what outlives a second lifetime outlives all that the second outlives.
 pub fn outlives_is_a_preorder()
     ensures reflexive { (e : Environment) (l : ℕ) → Outlives (longer_of e) l l }
-    ensures transitive { (e : Environment) (l m s : ℕ) → Outlives (longer_of e) l m → Outlives (longer_of e) m s → Outlives (longer_of e) l s }
+    ensures transitive { (e : Environment) (l m s : ℕ) → Outlives (longer_of e) l m
+        → Outlives (longer_of e) m s → Outlives (longer_of e) l s }
 {}
 
 /// What is reached along the bounds to the shorter is the converse of what is reached along those to the longer.
 pub fn shorter_is_the_converse_of_longer()
-    ensures { (e : Environment) → IsSound e → (l s : ℕ) → (Outlives (shorter_of e) s l ↔ Outlives (longer_of e) l s) }
+    ensures { (e : Environment) → IsSound e → (l s : ℕ)
+        → (Outlives (shorter_of e) s l ↔ Outlives (longer_of e) l s) }
 {}
 
 /// A definition in a definition in a method: substituting twice is substituting by the substituted arguments.
 pub fn substitution_composes()
-    ensures { (l : MaybeStatic ℕ) (a b : List (MaybeStatic ℕ)) → IsBelow (length a) l → AreBelow (length b) a → subst (subst l a) b ≡ subst l (subst_each a b) }
+    ensures { (l : MaybeStatic ℕ) (a b : List (MaybeStatic ℕ)) → IsBelow (length a) l
+        → AreBelow (length b) a → subst (subst l a) b ≡ subst l (subst_each a b) }
 {}
 
 /// Order, equality and hash of lifetimes agree. Lifetimes are ordered by their numbers, and `'static` stands before them.
 pub fn order_equality_and_hash_agree()
-    ensures lifetime { Agree ⟦<Lifetime as Ord>⟧.cmp ⟦<Lifetime as PartialEq>⟧.eq ⟦<Lifetime as Hash>⟧.hash_input }
-    ensures maybe_static { Agree ⟦<MaybeStatic<Lifetime> as Ord>⟧.cmp ⟦<MaybeStatic<Lifetime> as PartialEq>⟧.eq ⟦<MaybeStatic<Lifetime> as Hash>⟧.hash_input }
-    ensures by_number { (l m : ℕ) → ⟦<MaybeStatic<Lifetime> as Ord>⟧.cmp (NonStatic l) (NonStatic m) ≡ nat_cmp l m }
-    ensures static_first { (l : ℕ) → ⟦<MaybeStatic<Lifetime> as Ord>⟧.cmp Static (NonStatic l) ≡ Less }
+    ensures lifetime { Agree ⟦<Lifetime as Ord>⟧.cmp ⟦<Lifetime as PartialEq>⟧.eq
+        ⟦<Lifetime as Hash>⟧.hash_input }
+    ensures maybe_static { Agree ⟦<MaybeStatic<Lifetime> as Ord>⟧.cmp
+        ⟦<MaybeStatic<Lifetime> as PartialEq>⟧.eq ⟦<MaybeStatic<Lifetime> as Hash>⟧.hash_input }
+    ensures by_number { (l m : ℕ) → ⟦<MaybeStatic<Lifetime> as Ord>⟧.cmp (NonStatic l) (NonStatic m)
+        ≡ nat_cmp l m }
+    ensures static_first { (l : ℕ) → ⟦<MaybeStatic<Lifetime> as Ord>⟧.cmp Static (NonStatic l)
+        ≡ Less }
 {}

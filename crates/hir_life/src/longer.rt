@@ -28,8 +28,10 @@ impl LifetimeEnv {
     ) -> Result<Vec<Lifetime>, NoMemory>
         requires { lt < self.now.count }
         ensures list { IfOk result (λ longer. ListsLonger self.now lt longer.items) }
-        ensures walk { IfOk result (λ longer. Drains WalksOn (walk_from self.now Longer lt) longer.items) }
-        ensures same { IfOk result (λ longer. (other : List ℕ) → Drains WalksOn (walk_from self.now Longer lt) other → other ≡ longer.items) }
+        ensures walk { IfOk result (λ longer.
+            Drains WalksOn (walk_from self.now Longer lt) longer.items) }
+        ensures same { IfOk result (λ longer. (other : List ℕ)
+            → Drains WalksOn (walk_from self.now Longer lt) other → other ≡ longer.items) }
         ensures steps { IfOk result (λ longer. steps.new ≡ steps.old + length longer.items) }
         ensures most { OnOk result (steps.new ≤ steps.old + 1 + bounds_declared self.now) }
         ensures err { OnErr result (steps.new ≡ steps.old) }

@@ -65,7 +65,8 @@ impl LifetimeEnv {
         alloc: Global,
         visit_fn: F,
     ) -> Result<SubtypeLifetimeVisitor<'_, F>, NoMemory>
-        ensures { IfOk result (λ visitor. visitor ≡ record { environment = self.now; visited = []; visit_fn = visit_fn }) }
+        ensures { IfOk result (λ visitor. visitor
+            ≡ record { environment = self.now; visited = []; visit_fn = visit_fn }) }
     {
         let walker = Walker::new(alloc, self, Direction::Longer)?;
         Ok(SubtypeLifetimeVisitor { walker, visit_fn })

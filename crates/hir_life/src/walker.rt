@@ -47,7 +47,8 @@ impl<'env> Walker<'env> {
         env: &'env LifetimeEnv,
         direction: Direction,
     ) -> Result<Self, NoMemory>
-        ensures walk { IfOk result (λ walk. walk ≡ record { environment = env.now; direction = direction; reached = []; given = 0 }) }
+        ensures walk { IfOk result (λ walk. walk
+            ≡ record { environment = env.now; direction = direction; reached = []; given = 0 }) }
         ensures sound { IsSound env.now }
     {
         let count = env.num_lifetimes();
