@@ -70,44 +70,62 @@ fn numbers(alloc: Global, walk: LifetimeTransitivityIterator<'_>) -> Result<Vec<
     Ok(given)
 }
 
-/// Walks from `start` in both directions, which give these lists.
-fn walk_from(
-    rt: &impl Abort,
-    alloc: Global,
-    env: &LifetimeEnv,
-    start: usize,
-    longer: &[usize],
-    shorter: &[usize],
-) -> Result<(), Fail> {
-    let start = Lifetime::new(start);
-    assert!(rt; env.contains(start));
-    let walk = env.all_longer_lifetimes(alloc, start)?;
-    assert_eq!(rt; numbers(alloc, walk)?.as_slice(), longer);
-    let walk = env.all_shorter_lifetimes(alloc, start)?;
-    assert_eq!(rt; numbers(alloc, walk)?.as_slice(), shorter);
+/// The numbers of the lifetimes that outlive the one of a number, as a walk gives them.
+fn longer_from(alloc: Global, env: &LifetimeEnv, start: usize) -> Result<Vec<usize>, Fail> {
+    if !env.contains(Lifetime::new(start)) {
+        return Err(Fail::from("there is no such lifetime"));
+    }
+    numbers(
+        alloc,
+        env.all_longer_lifetimes(alloc, Lifetime::new(start))?,
+    )
+}
+
+/// The numbers of the lifetimes that the one of a number outlives, as a walk gives them.
+fn shorter_from(alloc: Global, env: &LifetimeEnv, start: usize) -> Result<Vec<usize>, Fail> {
+    if !env.contains(Lifetime::new(start)) {
+        return Err(Fail::from("there is no such lifetime"));
+    }
+    numbers(
+        alloc,
+        env.all_shorter_lifetimes(alloc, Lifetime::new(start))?,
+    )
+}
+
+/// Bounds, a lifetime, and the walks from it to the longer and to the shorter ones.
+type WalkRow = (
+    &'static [(usize, usize)],
+    usize,
+    &'static [usize],
+    &'static [usize],
+);
+
+// `'b: 'a, 'c: 'b`; a cycle; a diamond; `'c: 'a, 'b: 'a, 'd: 'c`; `'a: 'a`; no bounds; and lifetimes past the names.
+const WALKS: [WalkRow; 10] = [
+    (&[(1, 0), (2, 1)], 0, &[0, 1, 2], &[0]),
+    (&[(1, 0), (2, 1)], 1, &[1, 2], &[1, 0]),
+    (&[(1, 0), (2, 1)], 2, &[2], &[2, 1, 0]),
+    (&[(1, 0), (2, 1), (0, 2)], 1, &[1, 2, 0], &[1, 0, 2]),
+    (&[(1, 0), (2, 0), (3, 1), (3, 2)], 0, &[0, 1, 2, 3], &[0]),
+    (&[(2, 0), (1, 0), (3, 2)], 0, &[0, 2, 1, 3], &[0]),
+    (&[(0, 0), (1, 0)], 0, &[0, 1], &[0]),
+    (&[], 3, &[3], &[3]),
+    (&[(1, 0)], 4, &[4], &[4]),
+    (&[(1, 0)], 5, &[5], &[5]),
+];
+
+fn walk_row(rt: &impl Abort, alloc: Global, row: &WalkRow) -> Result<(), Fail> {
+    let (bounds, start, longer, shorter) = row;
+    let env = environment(alloc, &["a", "b", "c", "d"], bounds, 6)?;
+    assert_eq!(rt; longer_from(alloc, &env, *start)?.as_slice(), *longer);
+    assert_eq!(rt; shorter_from(alloc, &env, *start)?.as_slice(), *shorter);
     Ok(())
 }
 
 #[test]
 fn walks(rt: HostRuntime) -> Result<(), Fail> {
-    let alloc = rt.alloc();
-    let names: [&str; 4] = ["a", "b", "c", "d"];
-    // `'b: 'a, 'c: 'b`; a cycle; a diamond; `'c: 'a, 'b: 'a, 'd: 'c`; `'a: 'a`; no bounds; and lifetimes past the names.
-    let rows: [(&[(usize, usize)], usize, &[usize], &[usize]); 10] = [
-        (&[(1, 0), (2, 1)], 0, &[0, 1, 2], &[0]),
-        (&[(1, 0), (2, 1)], 1, &[1, 2], &[1, 0]),
-        (&[(1, 0), (2, 1)], 2, &[2], &[2, 1, 0]),
-        (&[(1, 0), (2, 1), (0, 2)], 1, &[1, 2, 0], &[1, 0, 2]),
-        (&[(1, 0), (2, 0), (3, 1), (3, 2)], 0, &[0, 1, 2, 3], &[0]),
-        (&[(2, 0), (1, 0), (3, 2)], 0, &[0, 2, 1, 3], &[0]),
-        (&[(0, 0), (1, 0)], 0, &[0, 1], &[0]),
-        (&[], 3, &[3], &[3]),
-        (&[(1, 0)], 4, &[4], &[4]),
-        (&[(1, 0)], 5, &[5], &[5]),
-    ];
-    for (bounds, start, longer, shorter) in rows {
-        let env = environment(alloc, &names, bounds, 6)?;
-        walk_from(&rt, alloc, &env, start, longer, shorter)?;
+    for row in &WALKS {
+        walk_row(&rt, rt.alloc(), row)?;
     }
     Ok(())
 }
@@ -175,27 +193,46 @@ fn order(rt: HostRuntime) {
     assert!(rt; number(0) < number(1));
 }
 
-/// The lifetimes and bounds of `<'a, 'b: 'a>` with one anonymous lifetime, and of an equal environment.
-#[test]
-fn lists(rt: HostRuntime) -> Result<(), Fail> {
-    let alloc = rt.alloc();
-    let made = environment(alloc, &["a", "b"], &[(1, 0)], 3)?;
-    let env = made.try_clone(alloc)?;
+/// A copy of the environment of `<'a, 'b: 'a>` with one anonymous lifetime.
+fn two_and_one(alloc: Global) -> Result<LifetimeEnv, Fail> {
+    Ok(environment(alloc, &["a", "b"], &[(1, 0)], 3)?.try_clone(alloc)?)
+}
+
+/// The lifetimes of the environment, one by one.
+fn each_of(alloc: Global, env: &LifetimeEnv) -> Result<Vec<MaybeStatic<Lifetime>>, Fail> {
     let mut all = Vec::new(alloc);
     for lifetime in env.all_lifetimes() {
         all.push(MaybeStatic::NonStatic(lifetime))?;
     }
-    assert_eq!(rt; env.lifetimes(alloc)?.as_slice(), all.as_slice());
+    Ok(all)
+}
+
+#[test]
+fn lists(rt: HostRuntime) -> Result<(), Fail> {
+    let env = two_and_one(rt.alloc())?;
+    let all = each_of(rt.alloc(), &env)?;
+    assert_eq!(rt; env.lifetimes(rt.alloc())?.as_slice(), all.as_slice());
     assert_eq!(rt; all.len(), 3);
-    let longer = env
-        .get_bounds(Lifetime::new(0))
-        .map(|bounds| bounds.longer.as_slice());
-    assert_eq!(rt; longer, Some([Lifetime::new(1)].as_slice()));
-    let shorter = env
-        .get_bounds(Lifetime::new(1))
-        .map(|bounds| bounds.shorter.as_slice());
-    assert_eq!(rt; shorter, Some([Lifetime::new(0)].as_slice()));
-    assert!(rt; env.get_bounds(Lifetime::new(2)).is_none());
+    Ok(())
+}
+
+fn longer_bounds(env: &LifetimeEnv, number: usize) -> Option<&[Lifetime]> {
+    Some(env.get_bounds(Lifetime::new(number))?.longer.as_slice())
+}
+
+fn shorter_bounds(env: &LifetimeEnv, number: usize) -> Option<&[Lifetime]> {
+    Some(env.get_bounds(Lifetime::new(number))?.shorter.as_slice())
+}
+
+#[test]
+fn bounds(rt: HostRuntime) -> Result<(), Fail> {
+    let env = two_and_one(rt.alloc())?;
+    assert_eq!(rt; longer_bounds(&env, 0), Some([Lifetime::new(1)].as_slice()));
+    assert_eq!(rt;
+        shorter_bounds(&env, 1),
+        Some([Lifetime::new(0)].as_slice())
+    );
+    assert!(rt; longer_bounds(&env, 2).is_none());
     Ok(())
 }
 
@@ -213,22 +250,45 @@ fn copies(rt: HostRuntime) -> Result<(), Fail> {
     let copy = bounded_by_b(rt.alloc())?.try_clone(rt.alloc())?;
     assert_eq!(rt; copy.ident.as_str(), "a");
     assert_eq!(rt; copy.shorter.len(), 0);
-    let longer = copy.longer.try_clone(rt.alloc())?;
-    assert_eq!(rt; longer.as_slice().first().copied(), Some(Lifetime::new(1)));
+    assert_eq!(rt;
+        copy.longer.as_slice().first().copied(),
+        Some(Lifetime::new(1))
+    );
     Ok(())
 }
 
 #[test]
-fn names(rt: HostRuntime) -> Result<(), Fail> {
-    let alloc = rt.alloc();
-    let env = environment(alloc, &["a", "long_name"], &[(1, 0)], 14)?;
-    assert_eq!(rt; env.num_lifetimes(), 14);
-    for (number, name) in [(0, "a"), (1, "long_name"), (2, "anon_0"), (13, "anon_11")] {
-        let lifetime = Lifetime::new(number);
-        assert!(rt; env.contains(lifetime));
-        let text = format!(in alloc; "{}", env.fmt_lifetime(lifetime))?;
-        assert_eq!(rt; text.as_str(), name);
+fn copies_of_lists(rt: HostRuntime) -> Result<(), Fail> {
+    let longer = bounded_by_b(rt.alloc())?.longer.try_clone(rt.alloc())?;
+    assert_eq!(rt; longer.as_slice().first().copied(), Some(Lifetime::new(1)));
+    Ok(())
+}
+
+/// The names of `'a`, `'long_name` and twelve anonymous lifetimes, by the numbers.
+const NAMES: [(usize, Option<&str>); 5] = [
+    (0, Some("a")),
+    (1, Some("long_name")),
+    (2, Some("anon_0")),
+    (13, Some("anon_11")),
+    (14, None),
+];
+
+/// What the lifetime of a number is called; none where there is no such lifetime.
+fn name_of(alloc: Global, env: &LifetimeEnv, number: usize) -> Result<Option<String>, Fail> {
+    if !env.contains(Lifetime::new(number)) {
+        return Ok(None);
     }
-    assert!(rt; !env.contains(Lifetime::new(14)));
+    let name = env.fmt_lifetime(Lifetime::new(number));
+    Ok(Some(format!(in alloc; "{name}")?))
+}
+
+#[test]
+fn names(rt: HostRuntime) -> Result<(), Fail> {
+    let env = environment(rt.alloc(), &["a", "long_name"], &[(1, 0)], 14)?;
+    assert_eq!(rt; env.num_lifetimes(), 14);
+    for (number, expected) in NAMES {
+        let name = name_of(rt.alloc(), &env, number)?;
+        assert_eq!(rt; name.as_ref().map(|name| name.as_str()), expected);
+    }
     Ok(())
 }

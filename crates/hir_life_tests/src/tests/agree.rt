@@ -4,7 +4,7 @@ ghost use Rattle.std.specs.Prelude.{◌<◌};
 
 use crate::tests::counted::counted;
 use crate::tests::plain::outlives_plainly;
-use crate::tests::{environment, numbers};
+use crate::tests::{environment, longer_from, shorter_from};
 use hir_life::{Lifetime, LifetimeEnv, SubtypeLifetimeVisitor};
 use std::alloc::Global;
 use std::marker::Brand;
@@ -34,16 +34,26 @@ const CYCLES_AND_SELF: &str = "aa ab ba bb,cc ba cb ac dd,aa ba";
 // All bounds between three, and all between four.
 const COMPLETE: &str = "ab ac ba bc ca cb,aa ab ac ad ba bb bc bd ca cb cc cd da db dc dd";
 
-/// The environment that the text stands for.
-fn read(alloc: Global, text: &str) -> Result<LifetimeEnv, Fail> {
+/// The bound that two letters stand for.
+fn bound(pair: &str) -> Option<(usize, usize)> {
+    match pair.as_bytes() {
+        [longer, shorter] => Some((place(*longer), place(*shorter))),
+        _ => None,
+    }
+}
+
+/// The bounds that the text stands for.
+fn bounds(alloc: Global, text: &str) -> Result<Vec<(usize, usize)>, Fail> {
     let mut bounds = Vec::new(alloc);
     for pair in text.split_whitespace() {
-        let [longer, shorter] = pair.as_bytes() else {
-            return Err(Fail::from("a bound has two letters"));
-        };
-        bounds.push((place(*longer), place(*shorter)))?;
+        bounds.push(bound(pair).ok_or("a bound has two letters")?)?;
     }
-    environment(alloc, &NAMES, &bounds, COUNT)
+    Ok(bounds)
+}
+
+/// The environment that the text stands for.
+fn read(alloc: Global, text: &str) -> Result<LifetimeEnv, Fail> {
+    environment(alloc, &NAMES, &bounds(alloc, text)?, COUNT)
 }
 
 /// The place of the letter's lifetime.
@@ -56,32 +66,76 @@ fn occurrences(list: &[usize], number: usize) -> usize {
     list.iter().filter(|other| **other == number).count()
 }
 
-/// Walks from `start` in both directions, and asks the plain search about each lifetime.
+/// What walks and flags say of one lifetime.
+#[derive(Drop)]
+struct Found {
+    longer: Vec<usize>,
+    shorter: Vec<usize>,
+    flags: Vec<bool>,
+}
+
+/// Walks from the lifetime in both directions, and its flags.
+fn walked(alloc: Global, env: &LifetimeEnv, lt: Lifetime) -> Result<Found, Fail>
+    requires { lt < env.now.count }
+{
+    Ok(Found {
+        longer: longer_from(alloc, env, lt.index())?,
+        shorter: shorter_from(alloc, env, lt.index())?,
+        flags: env.outliving_flags(alloc, lt)?,
+    })
+}
+
+/// The walks begin with `start`, and that to the longer ones is the list.
+fn lists_agree(rt: &impl Abort, found: &Found, start: usize, listed: &[Lifetime]) {
+    assert_eq!(rt; found.longer.first(), Some(&start));
+    assert_eq!(rt; found.shorter.first(), Some(&start));
+    assert_eq!(rt; listed.len(), found.longer.len());
+    for (one, other) in listed.iter().zip(found.longer.iter()) {
+        assert_eq!(rt; one.index(), *other);
+    }
+}
+
+/// The plain search answers of the lifetime `other` what was found of `lt`.
+fn search_agrees(
+    rt: &impl Abort,
+    alloc: Global,
+    env: &LifetimeEnv,
+    lt: Lifetime,
+    other: Lifetime,
+    found: &Found,
+) -> Result<(), Fail>
+    requires lt { lt < env.now.count }
+    requires other { other < env.now.count }
+{
+    let outlives = outlives_plainly(alloc, env, other, lt)?;
+    let outlived = outlives_plainly(alloc, env, lt, other)?;
+    assert_eq!(rt;
+        occurrences(&found.longer, other.index()),
+        usize::from(outlives)
+    );
+    assert_eq!(rt;
+        occurrences(&found.shorter, other.index()),
+        usize::from(outlived)
+    );
+    assert_eq!(rt; found.flags.get(other.index()).copied(), Some(outlives));
+    Ok(())
+}
+
+/// Walks from the lifetime in both directions, and asks the plain search about each lifetime.
 fn walks_agree(
     rt: &impl Abort,
     alloc: Global,
     env: &LifetimeEnv,
-    start: usize,
+    lt: Lifetime,
     listed: &[Lifetime],
-) -> Result<(), Fail> {
-    let lt = Lifetime::new(start);
-    assert!(rt; env.contains(lt));
-    let longer = numbers(alloc, env.all_longer_lifetimes(alloc, lt)?)?;
-    let shorter = numbers(alloc, env.all_shorter_lifetimes(alloc, lt)?)?;
-    let flags = env.outliving_flags(alloc, lt)?;
-    assert_eq!(rt; longer.first(), Some(&start));
-    assert_eq!(rt; shorter.first(), Some(&start));
-    assert_eq!(rt; listed.len(), longer.len());
-    for (one, other) in listed.iter().zip(longer.iter()) {
-        assert_eq!(rt; one.index(), *other);
-    }
+) -> Result<(), Fail>
+    requires { lt < env.now.count }
+{
+    let found = walked(alloc, env, lt)?;
+    lists_agree(rt, &found, lt.index(), listed);
     for other in env.all_lifetimes() {
         assert!(rt; env.contains(other));
-        let outlives = outlives_plainly(alloc, env, other, lt)?;
-        let outlived = outlives_plainly(alloc, env, lt, other)?;
-        assert_eq!(rt; occurrences(&longer, other.index()), usize::from(outlives));
-        assert_eq!(rt; occurrences(&shorter, other.index()), usize::from(outlived));
-        assert_eq!(rt; flags.get(other.index()).copied(), Some(outlives));
+        search_agrees(rt, alloc, env, lt, other, &found)?;
     }
     Ok(())
 }
@@ -109,6 +163,25 @@ fn visits(alloc: Global, env: &LifetimeEnv, starts: &[usize]) -> Result<Vec<u32>
     Ok(counts)
 }
 
+/// Whether the lifetime is a named one that outlives one of two.
+fn is_due(
+    alloc: Global,
+    env: &LifetimeEnv,
+    first: Lifetime,
+    second: Lifetime,
+    other: Lifetime,
+) -> Result<bool, Fail>
+    requires first { first < env.now.count }
+    requires second { second < env.now.count }
+    requires other { other < env.now.count }
+{
+    Ok(
+        other.index() < NAMES.len()
+            && (outlives_plainly(alloc, env, other, first)?
+                || outlives_plainly(alloc, env, other, second)?),
+    )
+}
+
 /// Visits from two lifetimes and from the first again: each named one that outlives one of them is visited once.
 fn visits_agree(
     rt: &impl Abort,
@@ -123,9 +196,7 @@ fn visits_agree(
     let counts = visits(alloc, env, &[first.index(), second.index(), first.index()])?;
     for other in env.all_lifetimes() {
         assert!(rt; env.contains(other));
-        let due = other.index() < NAMES.len()
-            && (outlives_plainly(alloc, env, other, first)?
-                || outlives_plainly(alloc, env, other, second)?);
+        let due = is_due(alloc, env, first, second, other)?;
         assert_eq!(rt; counts.get(other.index()).copied(), Some(u32::from(due)));
     }
     Ok(())
@@ -139,7 +210,7 @@ fn agrees(rt: &impl Abort, alloc: Global, env: &LifetimeEnv) -> Result<(), Fail>
         assert!(rt; env.contains(first) && env.contains(second));
         let (listed, steps) = counted::<Brand>(alloc, env, first, Blank::new(1))?;
         assert_eq!(rt; listed.len(), steps);
-        walks_agree(rt, alloc, env, start, &listed)?;
+        walks_agree(rt, alloc, env, first, &listed)?;
         visits_agree(rt, alloc, env, first, second)?;
     }
     Ok(())
