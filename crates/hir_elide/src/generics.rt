@@ -21,9 +21,11 @@ fn lower_written<L: LowerLifetime>(
 ) -> Result<Lifetimes, ElideFault>
     ensures numbers { (s : Signature) → L.stands lowerer.old s
         → IfOk result (λ numbers. lowered_each L.phase s lifetimes.now ≡ map Ok numbers) }
-    ensures kept { (s : Signature) → L.stands lowerer.old s → OnOk result (L.stands lowerer.new (with_uses L.phase s lifetimes.now)) }
+    ensures kept { (s : Signature) → L.stands lowerer.old s
+        → OnOk result (L.stands lowerer.new (with_uses L.phase s lifetimes.now)) }
     ensures fault { (s : Signature) → L.stands lowerer.old s
-        → IfErr result (λ fault. TellsFault fault (all_or_fault (lowered_each L.phase s lifetimes.now))) }
+        → IfErr result (λ fault.
+        TellsFault fault (all_or_fault (lowered_each L.phase s lifetimes.now))) }
 {
     let mut lowered = Lifetimes::new(alloc);
     for lifetime in lifetimes {
@@ -39,12 +41,18 @@ fn lower_unwritten<L: LowerLifetime>(
     written: Lifetimes,
     count: usize,
 ) -> Result<Lifetimes, ElideFault>
-    ensures numbers { (s : Signature) (ls : List Used) → L.stands lowerer.old (with_uses L.phase s ls) → lowered_each L.phase s ls ≡ map Ok written
-        → IfOk result (λ numbers. lowered_each L.phase s (ls ++ replicate count used_as.Anonymous) ≡ map Ok numbers) }
-    ensures kept { (s : Signature) (ls : List Used) → L.stands lowerer.old (with_uses L.phase s ls) → lowered_each L.phase s ls ≡ map Ok written
-        → OnOk result (L.stands lowerer.new (with_uses L.phase s (ls ++ replicate count used_as.Anonymous))) }
-    ensures fault { (s : Signature) (ls : List Used) → L.stands lowerer.old (with_uses L.phase s ls) → lowered_each L.phase s ls ≡ map Ok written
-        → IfErr result (λ fault. TellsFault fault (all_or_fault (lowered_each L.phase s (ls ++ replicate count used_as.Anonymous)))) }
+    ensures numbers { (s : Signature) (ls : List Used)
+        → L.stands lowerer.old (with_uses L.phase s ls) → lowered_each L.phase s ls ≡ map Ok written
+        → IfOk result (λ numbers. lowered_each L.phase s (ls ++ replicate count used_as.Anonymous)
+        ≡ map Ok numbers) }
+    ensures kept { (s : Signature) (ls : List Used) → L.stands lowerer.old (with_uses L.phase s ls)
+        → lowered_each L.phase s ls ≡ map Ok written
+        → OnOk result (L.stands lowerer.new (with_uses L.phase s
+        (ls ++ replicate count used_as.Anonymous))) }
+    ensures fault { (s : Signature) (ls : List Used) → L.stands lowerer.old (with_uses L.phase s ls)
+        → lowered_each L.phase s ls ≡ map Ok written
+        → IfErr result (λ fault. TellsFault fault (all_or_fault (lowered_each L.phase s
+        (ls ++ replicate count used_as.Anonymous)))) }
 {
     let mut lowered = written;
     for _ in 0..count {
@@ -63,11 +71,13 @@ pub fn lower_each<L: LowerLifetime>(
 ) -> Result<Lifetimes, ElideFault>
     requires { length lifetimes.now ≤ count }
     ensures told { (s : Signature) → L.stands lowerer.old s
-        → IsUnlessNoMemory result (all_or_fault (lowered_each L.phase s (filled lifetimes.now count))) }
+        → IsUnlessNoMemory result
+        (all_or_fault (lowered_each L.phase s (filled lifetimes.now count))) }
     ensures kept { (s : Signature) → L.stands lowerer.old s
         → OnOk result (L.stands lowerer.new (with_uses L.phase s (filled lifetimes.now count))) }
     ensures numbers { (s : Signature) → L.stands lowerer.old s
-        → IfOk result (λ numbers. lowered_each L.phase s (filled lifetimes.now count) ≡ map Ok numbers) }
+        → IfOk result (λ numbers. lowered_each L.phase s (filled lifetimes.now count)
+        ≡ map Ok numbers) }
 {
     let written = lower_written(alloc, lowerer, lifetimes)?;
     let lowered = lower_unwritten(lowerer, written, count - lifetimes.len())?;

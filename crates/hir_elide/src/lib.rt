@@ -68,6 +68,3 @@ pub use lowerer::{LifetimeLowerer, LowerLifetime, StandsFor};
 pub use params::ParamLifetimeLowerer;
 pub use returns::ReturnLifetimeLowerer;
 pub use self_param::SelfParamLifetimeLowerer;
-
-#[cfg(test)]
-mod tests;

@@ -26,7 +26,8 @@ pub trait LowerLifetime: StandsFor {
 
     /// The lifetime that is used next.
     fn lower_lifetime(&mut self, lifetime: &Written) -> Result<MaybeStatic<Lifetime>, ElideFault>
-        ensures told { (s : Signature) → Self.stands self.old s → result ≡ lowered phase s lifetime.now }
+        ensures told { (s : Signature) → Self.stands self.old s
+            → result ≡ lowered phase s lifetime.now }
         ensures kept { (s : Signature) → Self.stands self.old s
             → OnOk result (Self.stands self.new (with_uses phase s (lifetime.now ∷ []))) };
 }
@@ -43,9 +44,12 @@ pub trait LifetimeLowerer: LowerLifetime {
     ) -> Result<Lifetimes, ElideFault>
         requires { length lifetimes.now ≤ length type_generics.now.nodes }
         ensures told { (s : Signature) → Self.stands self.old s
-            → IsUnlessNoMemory result (all_or_fault (lowered_each Self.phase s (filled lifetimes.now (length type_generics.now.nodes)))) }
+            → IsUnlessNoMemory result
+            (all_or_fault (lowered_each Self.phase s (filled lifetimes.now
+            (length type_generics.now.nodes)))) }
         ensures kept { (s : Signature) → Self.stands self.old s
-            → OnOk result (Self.stands self.new (with_uses Self.phase s (filled lifetimes.now (length type_generics.now.nodes)))) }
+            → OnOk result (Self.stands self.new (with_uses Self.phase s (filled lifetimes.now
+            (length type_generics.now.nodes)))) }
     {
         lower_each(alloc, self, lifetimes, type_generics.nodes.len())
     }
@@ -61,7 +65,9 @@ pub trait LifetimeLowerer: LowerLifetime {
     ) -> Result<Lifetimes, ElideFault>
         requires { length lifetimes.now ≤ length type_generics.now.nodes }
         ensures told { (s : Signature) → Self.stands self.old s
-            → IsUnlessNoMemory result (all_or_fault (lowered_generics Self.phase is_self s (filled lifetimes.now (length type_generics.now.nodes)))) }
+            → IsUnlessNoMemory result (all_or_fault (lowered_generics Self.phase is_self s
+            (filled lifetimes.now (length type_generics.now.nodes)))) }
         ensures kept { (s : Signature) → Self.stands self.old s
-            → OnOk result (Self.stands self.new (with_generics Self.phase is_self s (filled lifetimes.now (length type_generics.now.nodes)))) };
+            → OnOk result (Self.stands self.new (with_generics Self.phase is_self s
+            (filled lifetimes.now (length type_generics.now.nodes)))) };
 }

@@ -46,7 +46,8 @@ impl Numbering {
 
     /// The number of a declared name.
     pub fn named(&self, name: &Text) -> Result<MaybeStatic<Lifetime>, ElideFault>
-        ensures { (s : Signature) → Numbers self.now s → result ≡ name_number (number_of (lifetime_names s.declared) name.now) }
+        ensures { (s : Signature) → Numbers self.now s
+            → result ≡ name_number (number_of (lifetime_names s.declared) name.now) }
     {
         match self.names.get(name) {
             Some(place) => within_most(*place),
@@ -109,12 +110,18 @@ impl Numbering {
         type_generics: &LifetimeEnv,
     ) -> Result<Lifetimes, ElideFault>
         requires { length lifetimes.now ≤ length type_generics.now.nodes }
-        ensures told { (s : Signature) → Numbers self.old s → IsOwn self.old.own s → IsUnlessNoMemory result
-            (all_or_fault (own_numbers s.has_self s (filled lifetimes.now (length type_generics.now.nodes)))) }
+        ensures told { (s : Signature) → Numbers self.old s → IsOwn self.old.own s
+            → IsUnlessNoMemory result
+            (all_or_fault (own_numbers s.has_self s (filled lifetimes.now
+            (length type_generics.now.nodes)))) }
         ensures kept { (s : Signature) → Numbers self.old s → IsOwn self.old.own s
-            → OnOk result (Numbers self.new (with_own s.has_self s (filled lifetimes.now (length type_generics.now.nodes)))) }
+            → OnOk result
+            (Numbers self.new (with_own s.has_self s (filled lifetimes.now
+            (length type_generics.now.nodes)))) }
         ensures own { (s : Signature) → Numbers self.old s → IsOwn self.old.own s
-            → OnOk result (IsOwn self.new.own (with_own s.has_self s (filled lifetimes.now (length type_generics.now.nodes)))) }
+            → OnOk result
+            (IsOwn self.new.own (with_own s.has_self s (filled lifetimes.now
+            (length type_generics.now.nodes)))) }
     {
         match &self.own {
             Some(own) => Ok(own.try_clone(alloc)?),
@@ -130,12 +137,18 @@ impl Numbering {
         type_generics: &LifetimeEnv,
     ) -> Result<Lifetimes, ElideFault>
         requires { length lifetimes.now ≤ length type_generics.now.nodes }
-        ensures told { (s : Signature) → Numbers self.old s → IsUnlessNoMemory result
-            (all_or_fault (lowered_each (Using Own) s (filled lifetimes.now (length type_generics.now.nodes)))) }
+        ensures told { (s : Signature) → Numbers self.old s
+            → IsUnlessNoMemory result
+            (all_or_fault (lowered_each (Using Own) s (filled lifetimes.now
+            (length type_generics.now.nodes)))) }
         ensures kept { (s : Signature) → Numbers self.old s
-            → OnOk result (Numbers self.new (with_uses (Using Own) s (filled lifetimes.now (length type_generics.now.nodes)))) }
-        ensures own { (s : Signature) → Numbers self.old s → IfOk result (λ numbers.
-            (self.new.own ≡ Some numbers) × (lowered_each (Using Own) s (filled lifetimes.now (length type_generics.now.nodes)) ≡ map Ok numbers)) }
+            → OnOk result
+            (Numbers self.new (with_uses (Using Own) s (filled lifetimes.now
+            (length type_generics.now.nodes)))) }
+        ensures own { (s : Signature) → Numbers self.old s
+            → IfOk result (λ numbers. (self.new.own ≡ Some numbers)
+            × (lowered_each (Using Own) s (filled lifetimes.now (length type_generics.now.nodes))
+            ≡ map Ok numbers)) }
     {
         let own = lower_each(alloc, self, lifetimes, type_generics.nodes.len())?;
         let copy = own.try_clone(alloc)?;

@@ -28,7 +28,8 @@ impl StandsFor for ParamLifetimeLowerer {
 impl ParamLifetimeLowerer {
     /// All parameters were gone through, and the return comes next.
     pub fn into_return_ltl(self) -> ReturnLifetimeLowerer
-        ensures { (s : Signature) → ⟦<ParamLifetimeLowerer as StandsFor>⟧.stands self s → ⟦<ReturnLifetimeLowerer as StandsFor>⟧.stands result s }
+        ensures { (s : Signature) → ⟦<ParamLifetimeLowerer as StandsFor>⟧.stands self s
+            → ⟦<ReturnLifetimeLowerer as StandsFor>⟧.stands result s }
     {
         ReturnLifetimeLowerer {
             source: self.source,

@@ -30,7 +30,8 @@ impl StandsFor for ReturnLifetimeLowerer {
 impl ReturnLifetimeLowerer {
     /// The lifetimes of the signature: those that are declared, and the count of all with the anonymous ones.
     pub fn finish(self) -> hir_life::LifetimeEnv
-        ensures { (s : Signature) → ⟦<ReturnLifetimeLowerer as StandsFor>⟧.stands self s → result ≡ environment_of s }
+        ensures { (s : Signature) → ⟦<ReturnLifetimeLowerer as StandsFor>⟧.stands self s
+            → result ≡ environment_of s }
     {
         self.base.lifetimes
     }

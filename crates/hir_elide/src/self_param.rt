@@ -34,9 +34,11 @@ impl SelfParamLifetimeLowerer {
     /// else `BadIdent` only where a name isn't an identifier.
     pub fn new(alloc: Global, env: &LifetimeEnv) -> Result<Self, ElideFault>
         requires { IsSoundEnvironment env.now }
-        ensures begins { IfOk result (λ lowerer. ⟦<SelfParamLifetimeLowerer as StandsFor>⟧.stands lowerer (begun env.now)) }
+        ensures begins { IfOk result (λ lowerer.
+            ⟦<SelfParamLifetimeLowerer as StandsFor>⟧.stands lowerer (begun env.now)) }
         ensures idents { OnOk result (HasIdents env.now) }
-        ensures too_many { IsErrOf result ElideFault.TooManyLifetimes ↔ (most < length env.now.nodes) }
+        ensures too_many { IsErrOf result ElideFault.TooManyLifetimes
+            ↔ (most < length env.now.nodes) }
         ensures bad { IsErrOf result ElideFault.BadIdent → ¬ (HasIdents env.now) }
         ensures only { IfErr result IsOfNames }
     {
@@ -68,7 +70,8 @@ impl SelfParamLifetimeLowerer {
         ensures fault { (s : Signature) → ⟦<SelfParamLifetimeLowerer as StandsFor>⟧.stands self s
             → IfErr result (λ fault. lowered (Using Borrow) s lifetime.now ≡ Err fault) }
         ensures kept { (s : Signature) → ⟦<SelfParamLifetimeLowerer as StandsFor>⟧.stands self s
-            → IfOk result (λ both. ⟦<ParamLifetimeLowerer as StandsFor>⟧.stands both.1 (with_uses (Using Borrow) s (lifetime.now ∷ []))) }
+            → IfOk result (λ both. ⟦<ParamLifetimeLowerer as StandsFor>⟧.stands both.1
+            (with_uses (Using Borrow) s (lifetime.now ∷ []))) }
     {
         let mut base = self.base;
         let number = base.number(lifetime)?;
@@ -78,7 +81,8 @@ impl SelfParamLifetimeLowerer {
 
     /// There is no receiver, or it isn't borrowed.
     pub fn no_self_ref(self) -> ParamLifetimeLowerer
-        ensures { (s : Signature) → ⟦<SelfParamLifetimeLowerer as StandsFor>⟧.stands self s → ⟦<ParamLifetimeLowerer as StandsFor>⟧.stands result s }
+        ensures { (s : Signature) → ⟦<SelfParamLifetimeLowerer as StandsFor>⟧.stands self s
+            → ⟦<ParamLifetimeLowerer as StandsFor>⟧.stands result s }
     {
         ParamLifetimeLowerer {
             source: ElisionSource::NoBorrows,

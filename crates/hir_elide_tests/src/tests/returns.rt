@@ -4,10 +4,11 @@ ghost use Rattle.std.specs.Prelude.{◌≤◌, length};
 ghost use Rattle.bridge_decl.specs.Lifetimes.{IsSoundEnvironment};
 
 use super::*;
-use crate::{
+use hir_elide::{
     ElideFault, LifetimeLowerer, LowerLifetime, ParamLifetimeLowerer, ReturnLifetimeLowerer,
     SelfParamLifetimeLowerer,
 };
+use std::process::Abort;
 
 /// A signature whose parameters come next, after a receiver with that borrow.
 fn after_receiver(
@@ -36,6 +37,21 @@ fn lower_params(
     Ok(())
 }
 
+/// The generic of `Self` where it stands in the receiver's type.
+fn lower_own(
+    alloc: Global,
+    lowerer: &mut ParamLifetimeLowerer,
+    env: &LifetimeEnv,
+    own: Option<&str>,
+) -> Result<(), ElideFault>
+    requires { 1 ≤ length env.now.nodes }
+{
+    if let Some(name) = own {
+        lowerer.lower_generics(alloc, &[written(alloc, name)?], env, true)?;
+    }
+    Ok(())
+}
+
 /// What a return borrows for that leaves its lifetime out, in a signature of a type with the lifetime `'a`: by the borrow of
 /// its receiver, the generic of `Self` where it stands in the receiver's type, and the lifetimes of its parameters.
 fn elided(
@@ -46,13 +62,9 @@ fn elided(
 ) -> Result<usize, ElideFault> {
     let env = one_name(alloc, "a")?;
     let mut lowerer = after_receiver(alloc, &env, receiver)?;
-    if let Some(name) = own {
-        lowerer.lower_generics(alloc, &[written(alloc, name)?], &env, true)?;
-    }
+    lower_own(alloc, &mut lowerer, &env, own)?;
     lower_params(alloc, &mut lowerer, params)?;
-    let mut returned = lowerer.into_return_ltl();
-    let number = returned.lower_lifetime(&Written::Anonymous)?;
-    Ok(number_of(&number))
+    next_number(&mut lowerer.into_return_ltl(), &Written::Anonymous)
 }
 
 /// A receiver's borrow, the generic of `Self`, the lifetimes of the parameters, and what the return borrows for.
@@ -100,45 +112,56 @@ fn what_returns_borrow_for(rt: HostRuntime) {
     }
 }
 
-/// `fn f(&self, x: Bar<'a>)` where `Bar` has two lifetimes: whether those of `x` have the numbers 0 and 2, and the return.
+/// `fn f(&self, x: Bar<'a>)` where `Bar` has two lifetimes; those of `x` have the numbers 0 and 2.
 fn after_bar(
+    rt: &impl Abort,
     alloc: Global,
     env: &LifetimeEnv,
     bar: &LifetimeEnv,
-) -> Result<(bool, ReturnLifetimeLowerer), ElideFault>
+) -> Result<ReturnLifetimeLowerer, ElideFault>
     requires sound { IsSoundEnvironment env.now }
     requires some { 1 ≤ length bar.now.nodes }
 {
     let mut params = after_receiver(alloc, env, Some("_"))?;
-    let generics = params.lower_generics(alloc, &[written(alloc, "a")?], bar, false)?;
-    Ok((are(&generics, &[0, 2]), params.into_return_ltl()))
+    let lifetimes = [written(alloc, "a")?];
+    assert!(rt; generics_are(alloc, &mut params, &lifetimes, bar, false, &[0, 2])?);
+    Ok(params.into_return_ltl())
 }
 
-/// Whether a return of `Bar<'a>` has the numbers 0 and 1, and one of `Bar` the number 1 twice.
-fn returns_bar(
+/// A return of `Bar<'a>` has the numbers 0 and 1, and one of `Bar` the number 1 twice.
+fn return_bar(
+    rt: &impl Abort,
     alloc: Global,
     returned: &mut ReturnLifetimeLowerer,
     bar: &LifetimeEnv,
-) -> Result<bool, ElideFault>
+) -> Result<(), ElideFault>
     requires { 1 ≤ length bar.now.nodes }
 {
-    let some_written = returned.lower_lifetimes(alloc, &[written(alloc, "a")?], bar)?;
-    let left_out = returned.lower_generics(alloc, &[], bar, false)?;
-    Ok(are(&some_written, &[0, 1]) && are(&left_out, &[1, 1]))
+    let lifetimes = [written(alloc, "a")?];
+    assert!(rt; lifetimes_are(alloc, returned, &lifetimes, bar, &[0, 1])?);
+    assert!(rt; generics_are(alloc, returned, &[], bar, false, &[1, 1])?);
+    Ok(())
+}
+
+/// A return of `Self` has the number 3; there are four lifetimes then.
+fn return_self(
+    rt: &impl Abort,
+    alloc: Global,
+    returned: ReturnLifetimeLowerer,
+    env: &LifetimeEnv,
+) -> Result<(), ElideFault> {
+    let mut returned = returned;
+    assert!(rt; generics_are(alloc, &mut returned, &[], env, true, &[3])?);
+    assert_eq!(rt; returned.finish().num_lifetimes(), 4);
+    Ok(())
 }
 
 /// A method of `Foo<'a>` that takes a `Bar<'a>`, with a return of `Bar<'a>`, `Bar` and `Self`.
 #[test]
 fn generics_of_returns(rt: HostRuntime) -> Result<(), ElideFault> {
-    let alloc = rt.alloc();
-    let env = one_name(alloc, "a")?;
-    let bar = two_names(alloc)?;
-    let (fits, mut returned) = after_bar(alloc, &env, &bar)?;
-    assert!(rt; fits);
-    assert!(rt; returns_bar(alloc, &mut returned, &bar)?);
-    let own = returned.lower_generics(alloc, &[], &env, true)?;
-    assert!(rt; are(&own, &[3]));
-    let all = returned.finish();
-    assert_eq!(rt; all.num_lifetimes(), 4);
-    Ok(())
+    let env = one_name(rt.alloc(), "a")?;
+    let bar = two_names(rt.alloc())?;
+    let mut returned = after_bar(&rt, rt.alloc(), &env, &bar)?;
+    return_bar(&rt, rt.alloc(), &mut returned, &bar)?;
+    return_self(&rt, rt.alloc(), returned, &env)
 }

@@ -1,7 +1,7 @@
 //! Declared names.
 
 use super::*;
-use crate::{ElideFault, SelfParamLifetimeLowerer};
+use hir_elide::{ElideFault, SelfParamLifetimeLowerer};
 
 #[test]
 fn names_are_identifiers(rt: HostRuntime) -> Result<(), ElideFault> {

@@ -1,6 +1,6 @@
 //! Signatures and definitions, and what their lifetimes are lowered to.
 
-ghost use Rattle.std.specs.Prelude.{◌≡◌, IfOk, length};
+ghost use Rattle.std.specs.Prelude.{◌≡◌, ◌≤◌, IfOk, length};
 ghost use Rattle.bridge_decl.specs.Lifetimes.{IsSoundEnvironment};
 
 mod definition;
@@ -9,6 +9,7 @@ mod returns;
 mod self_param;
 
 use bridge_decl::{Lifetime as Written, LifetimeEnv, LifetimeNode, NoMemory, Text};
+use hir_elide::{ElideFault, LifetimeLowerer, LowerLifetime};
 use hir_life::{Lifetime, Lifetimes, MaybeStatic};
 use sqlite_items::Items;
 use std::alloc::Global;
@@ -85,4 +86,38 @@ fn are(lifetimes: &Lifetimes, numbers: &[usize]) -> bool {
         }
     }
     true
+}
+
+/// The number of the lifetime that is used next.
+fn next_number<L: LowerLifetime>(lowerer: &mut L, lifetime: &Written) -> Result<usize, ElideFault> {
+    Ok(number_of(&lowerer.lower_lifetime(lifetime)?))
+}
+
+/// Whether a path's lifetimes have these numbers.
+fn lifetimes_are<L: LifetimeLowerer>(
+    alloc: Global,
+    lowerer: &mut L,
+    lifetimes: &[Written],
+    definition: &LifetimeEnv,
+    numbers: &[usize],
+) -> Result<bool, ElideFault>
+    requires { length lifetimes.now ≤ length definition.now.nodes }
+{
+    let lowered = lowerer.lower_lifetimes(alloc, lifetimes, definition)?;
+    Ok(are(&lowered, numbers))
+}
+
+/// The same of a path that may be that of `Self`.
+fn generics_are<L: LifetimeLowerer>(
+    alloc: Global,
+    lowerer: &mut L,
+    lifetimes: &[Written],
+    definition: &LifetimeEnv,
+    is_self: bool,
+    numbers: &[usize],
+) -> Result<bool, ElideFault>
+    requires { length lifetimes.now ≤ length definition.now.nodes }
+{
+    let lowered = lowerer.lower_generics(alloc, lifetimes, definition, is_self)?;
+    Ok(are(&lowered, numbers))
 }
