@@ -1,9 +1,12 @@
 pub mod AdvanceLemmas
 pub mod AnsweredLemmas
 pub mod BoundsLemmas
+pub mod DistinctLemmas
 pub mod EachLemmas
 pub mod FrameLemmas
+pub mod FittingItemLemmas
 pub mod FittingLemmas
+pub mod FittingLifetimeLemmas
 pub mod ItemLemmas
 pub mod ModuleLemmas
 pub mod NamedLemmas

@@ -50,8 +50,8 @@ pub struct Search {
 }
 
 fn add_aliases(aliases: &mut Aliases, module: usize, count: usize) -> Result<(), NoMemory>
-    ensures { OnOk result ((first second : ℕ) → HasPair aliases.new first second ↔ (HasPair aliases.old first second
-        ⊎ ((first ≡ «module») × (second < count)))) }
+    ensures { OnOk result ((first second : ℕ) → HasPair aliases.new first second
+        ↔ (HasPair aliases.old first second ⊎ ((first ≡ «module») × (second < count)))) }
 {
     for number in 0..count {
         aliases.insert((module, number))?;
@@ -61,7 +61,8 @@ fn add_aliases(aliases: &mut Aliases, module: usize, count: usize) -> Result<(),
 
 /// All aliases of modules.
 fn all_aliases(alloc: Global, modules: &[Module]) -> Result<Aliases, NoMemory>
-    ensures { IfOk result (λ aliases. (first second : ℕ) → HasPair aliases first second ↔ IsAlias modules.now (first, second)) }
+    ensures { IfOk result (λ aliases. (first second : ℕ) → HasPair aliases first second
+        ↔ IsAlias modules.now (first, second)) }
 {
     let mut aliases = BTreeSet::new(alloc);
     for (number, module) in modules.iter().enumerate() {
@@ -87,8 +88,8 @@ fn begin(alias: (usize, usize)) -> Frame
 
 /// The trail along a target, as far as it comes.
 fn go_on(modules: &[Module], scopes: &[Scope], ends: &Ends, frame: Frame) -> Progress
-    ensures { Knows scopes.now modules.now → AreEnds ends.now modules.now → IsFrame modules.now frame
-        → Progresses modules.now ends.now frame.alias result }
+    ensures { Knows scopes.now modules.now → AreEnds ends.now modules.now
+        → IsFrame modules.now frame → Progresses modules.now ends.now frame.alias result }
 {
     let target = target_of(modules, frame.alias.0, frame.alias.1);
     let mut trail = frame.trail;
@@ -112,10 +113,12 @@ fn go_on(modules: &[Module], scopes: &[Scope], ends: &Ends, frame: Frame) -> Pro
 /// The next trail to go on with: the last one on its way, else that of an alias that isn't begun.
 fn next_frame(search: &mut Search) -> Option<Frame>
     ensures smaller { IfSome result (λ _. size_of search.new + 1 ≤ size_of search.old) }
-    ensures begun { (modules : List Module) → IsSearch modules search.old.ends search.old.unbegun search.old.stack.items
-        → IfSome result (λ frame. IsSearch modules search.new.ends search.new.unbegun (search.new.stack.items ++ frame ∷ [])) }
-    ensures done { (modules : List Module) → IsSearch modules search.old.ends search.old.unbegun search.old.stack.items
-        → IfNone result (KnowsEnds search.new.ends modules) }
+    ensures begun { (modules : List Module) → IsSearch modules search.old.ends search.old.unbegun
+        search.old.stack.items
+        → IfSome result (λ frame. IsSearch modules search.new.ends search.new.unbegun
+        (search.new.stack.items ++ frame ∷ [])) }
+    ensures done { (modules : List Module) → IsSearch modules search.old.ends search.old.unbegun
+        search.old.stack.items → IfNone result (KnowsEnds search.new.ends modules) }
 {
     if let Some(frame) = search.stack.pop() {
         return Some(frame);
@@ -150,8 +153,10 @@ fn step(
     frame: Frame,
 ) -> Result<(), NoMemory>
     ensures smaller { OnOk result (size_of search.new ≤ size_of search.old) }
-    ensures searches { Knows scopes.now modules.now → IsSearch modules.now search.old.ends search.old.unbegun
-        (search.old.stack.items ++ frame ∷ []) → OnOk result (IsSearch modules.now search.new.ends search.new.unbegun
+    ensures searches { Knows scopes.now modules.now
+        → IsSearch modules.now search.old.ends search.old.unbegun
+        (search.old.stack.items ++ frame ∷ [])
+        → OnOk result (IsSearch modules.now search.new.ends search.new.unbegun
         search.new.stack.items) }
 {
     match go_on(modules, scopes, &search.ends, frame) {

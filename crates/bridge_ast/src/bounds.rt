@@ -50,7 +50,8 @@ fn empty_lists(alloc: Global, count: usize) -> Result<Vec<Items<usize>>, NoMemor
 
 /// Adds a number to the end of one of the lists. A place from their count on is that of no list.
 fn add_to(lists: &mut [Items<usize>], place: usize, number: usize) -> Result<(), NoMemory>
-    ensures { OnOk result (lists.new ≡ slice_set lists.old place (slice_index_or lists.old place [] ++ number ∷ [])) }
+    ensures { OnOk result (lists.new
+        ≡ slice_set lists.old place (slice_index_or lists.old place [] ++ number ∷ [])) }
 {
     if place < lists.len() {
         lists[place].push(number)?;
@@ -132,7 +133,8 @@ fn ascending_has(numbers: &[usize], number: usize) -> bool
 
 /// Whether each of the listed lifetimes is among the listers, which ascend. A number from the count on is no lifetime.
 fn are_answered(listers: &[usize], count: usize, listed: &[usize]) -> bool
-    ensures { IsNonDecreasing listers.now → result ≡ list_all (λ to. nat_le count to || has_number to listers.now) listed.now }
+    ensures { IsNonDecreasing listers.now
+        → result ≡ list_all (λ to. nat_le count to || has_number to listers.now) listed.now }
 {
     for to in listed {
         if *to < count && !ascending_has(listers, *to) {
@@ -169,18 +171,17 @@ fn needed(is_so: bool, kind: EnvFaultKind, at: EnvPlace) -> Result<(), EnvFault>
 
 /// Whether each number that the lifetime lists is below the count.
 fn is_in_range(count: usize, node: &LifetimeNode) -> bool
-    ensures { (nodes : List LifetimeNode) → count ≡ length nodes → result ≡ (in_range Longer nodes node.now && in_range Shorter
-        nodes
-        node.now) }
+    ensures { (nodes : List LifetimeNode) → count ≡ length nodes
+        → result ≡ (in_range Longer nodes node.now && in_range Shorter nodes node.now) }
 {
     are_below(count, node.longer.as_slice()) && are_below(count, node.shorter.as_slice())
 }
 
 /// Whether each bound that the lifetime of a number lists stands at its other end too.
 fn is_answered(bounds: &BoundLists, number: usize, node: &LifetimeNode) -> bool
-    ensures { (nodes : List LifetimeNode) → HasBounds bounds.now nodes → number < length nodes → result
-        ≡ (answered Longer nodes number node.now && answered
-        Shorter nodes number node.now) }
+    ensures { (nodes : List LifetimeNode) → HasBounds bounds.now nodes → number < length nodes
+        → result ≡ (answered Longer nodes number node.now
+        && answered Shorter nodes number node.now) }
 {
     let count = bounds.count;
     let longer = list_at(&bounds.longer, number);

@@ -88,8 +88,8 @@ impl Env {
     /// The lifetimes that a struct, an opaque, a trait or a function declares fit together, and so do those of each method. The call
     /// does nothing: its contract is the law.
     pub fn lifetimes_fit_together(&self)
-        ensures { (m : Module) (item : Item) (env : LifetimeEnv) → Contains self.now m → Contains m.items item
-            → Contains (lifetimes_of item) env → IsSoundEnvironment env }
+        ensures { (m : Module) (item : Item) (env : LifetimeEnv) → Contains self.now m
+            → Contains m.items item → Contains (lifetimes_of item) env → IsSoundEnvironment env }
     {
         let _ = &self.modules;
     }

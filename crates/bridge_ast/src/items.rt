@@ -49,7 +49,8 @@ fn test_methods(
     item: usize,
     methods: &[Method],
 ) -> Result<(), EnvFault>
-    ensures { Tells result (each (method_faults «module» item) (map (λ method. method.lifetime_env.nodes) methods.now)) }
+    ensures { Tells result (each (method_faults «module» item)
+        (map (λ method. method.lifetime_env.nodes) methods.now)) }
 {
     for (number, method) in methods.iter().enumerate() {
         let owner = Owner {
@@ -68,7 +69,8 @@ fn test_trait_methods(
     item: usize,
     methods: &[TraitMethod],
 ) -> Result<(), EnvFault>
-    ensures { Tells result (each (method_faults «module» item) (map (λ method. method.lifetimes.nodes) methods.now)) }
+    ensures { Tells result (each (method_faults «module» item)
+        (map (λ method. method.lifetimes.nodes) methods.now)) }
 {
     for (number, method) in methods.iter().enumerate() {
         let owner = Owner {
@@ -105,8 +107,8 @@ fn test_item_lifetimes(
     number: usize,
     item: &Item,
 ) -> Result<(), EnvFault>
-    ensures { Tells result (lifetime_faults «module» number None (nodes_of item.now) ++ each (method_faults «module» number)
-        (method_nodes_of item.now)) }
+    ensures { Tells result (lifetime_faults «module» number None (nodes_of item.now)
+        ++ each (method_faults «module» number) (method_nodes_of item.now)) }
 {
     let owner = Owner {
         module,
@@ -125,12 +127,13 @@ fn test_item(
     number: usize,
     item: &Item,
 ) -> Result<(), EnvFault>
-    ensures told { (before : List Named) → HasMeanings names.old before → Tells result
-        (repeats_name EnvFaultKind.DuplicateItem «module» before
-        (item_name item.now) (part.Item number) ++ (lifetime_faults «module» number None (nodes_of item.now) ++ each
-        (method_faults «module» number) (method_nodes_of item.now))) }
-    ensures kept { (before : List Named) → HasMeanings names.old before → OnOk result (HasMeanings names.new
-        (before ++ (item_name item.now, part.Item number) ∷ [])) }
+    ensures told { (before : List Named) → HasMeanings names.old before
+        → Tells result (repeats_name EnvFaultKind.DuplicateItem «module» before (item_name item.now)
+        (part.Item number) ++ (lifetime_faults «module» number None (nodes_of item.now)
+        ++ each (method_faults «module» number) (method_nodes_of item.now))) }
+    ensures kept { (before : List Named) → HasMeanings names.old before
+        → OnOk result
+        (HasMeanings names.new (before ++ (item_name item.now, part.Item number) ∷ [])) }
 {
     let at = EnvPlace {
         module,
@@ -147,7 +150,8 @@ fn test_items(
     items: &[Item],
 ) -> Result<(), EnvFault>
     ensures told { HasMeanings names.old [] → Tells result (each (item_faults «module») items.now) }
-    ensures kept { HasMeanings names.old [] → OnOk result (HasMeanings names.new (items_named items.now)) }
+    ensures kept { HasMeanings names.old []
+        → OnOk result (HasMeanings names.new (items_named items.now)) }
 {
     for (number, item) in items.iter().enumerate() {
         test_item(alloc, names, module, number, item)?;

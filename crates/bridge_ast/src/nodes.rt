@@ -50,11 +50,12 @@ fn test_node(
     number: usize,
     node: &LifetimeNode,
 ) -> Result<(), EnvFault>
-    ensures told { (before : List Named) (nodes : List LifetimeNode) → HasMeanings names.old before → HasBounds bounds.now nodes
-        → number < length nodes → Tells result (repeats_name EnvFaultKind.DuplicateLifetime at.«module» before node.now.name at.part
-        ++ bound_faults at nodes number node.now) }
-    ensures kept { (before : List Named) → HasMeanings names.old before → OnOk result (HasMeanings names.new
-        (before ++ (node.now.name, at.part) ∷ [])) }
+    ensures told { (before : List Named) (nodes : List LifetimeNode) → HasMeanings names.old before
+        → HasBounds bounds.now nodes → number < length nodes
+        → Tells result (repeats_name EnvFaultKind.DuplicateLifetime at.«module» before
+        node.now.name at.part ++ bound_faults at nodes number node.now) }
+    ensures kept { (before : List Named) → HasMeanings names.old before
+        → OnOk result (HasMeanings names.new (before ++ (node.now.name, at.part) ∷ [])) }
 {
     claim(
         alloc,

@@ -93,8 +93,8 @@ impl Env {
         requires { in_module < length self.now }
         ensures named { (item : Item) (place : ItemPlace) → (type_seen result ≡ Some (item, place))
             ↔ NamesType self.now in_module path.now.segments item place }
-        ensures nothing { (result ≡ None)
-            ↔ ((item : Item) (place : ItemPlace) → ¬ NamesType self.now in_module path.now.segments item place) }
+        ensures nothing { (result ≡ None) ↔ ((item : Item) (place : ItemPlace)
+            → ¬ NamesType self.now in_module path.now.segments item place) }
     {
         let modules = self.modules.as_slice();
         let place = self.find_item(in_module, path)?;
@@ -105,10 +105,11 @@ impl Env {
     /// Paths are read as by [`Env::resolve`].
     pub fn resolve_trait(&self, in_module: usize, path: &PathType) -> Option<TraitAt<'_>>
         requires { in_module < length self.now }
-        ensures named { (decl : Trait) (place : ItemPlace) → (trait_seen result ≡ Some (decl, place))
+        ensures named { (decl : Trait) (place : ItemPlace)
+            → (trait_seen result ≡ Some (decl, place))
             ↔ NamesTrait self.now in_module path.now.segments decl place }
-        ensures nothing { (result ≡ None)
-            ↔ ((decl : Trait) (place : ItemPlace) → ¬ NamesTrait self.now in_module path.now.segments decl place) }
+        ensures nothing { (result ≡ None) ↔ ((decl : Trait) (place : ItemPlace)
+            → ¬ NamesTrait self.now in_module path.now.segments decl place) }
     {
         let modules = self.modules.as_slice();
         let place = self.find_item(in_module, path)?;
@@ -118,8 +119,9 @@ impl Env {
     /// A path names one item at most, by the cases of the Rust Reference, and it is decided whether it names any: a path that
     /// goes in a circle names nothing. The call does nothing: its contract is the law.
     pub fn names_as_in_the_reference(&self)
-        ensures once { (number : ℕ) (path : List (List ℕ)) (one other : ItemPlace) → NamesItem self.now number path one
-            → NamesItem self.now number path other → one ≡ other }
+        ensures once { (number : ℕ) (path : List (List ℕ)) (one other : ItemPlace)
+            → NamesItem self.now number path one → NamesItem self.now number path other
+            → one ≡ other }
         ensures decided { (number : ℕ) (path : List (List ℕ)) → number < length self.now
             → ((place : ItemPlace) × NamesItem self.now number path place)
             ⊎ ((place : ItemPlace) → ¬ NamesItem self.now number path place) }

@@ -31,22 +31,24 @@ pub struct Scope {
 
 /// The number of the submodule of that name in the module of a number.
 pub fn submodule_of(scopes: &[Scope], number: usize, name: &Text) -> Option<usize>
-    ensures { (modules : List Module) (m : Module) → Knows scopes.now modules → slice_get modules number ≡ Some m
-        → result ≡ module_at modules (m.path ++ name.now ∷ []) }
+    ensures { (modules : List Module) (m : Module) → Knows scopes.now modules
+        → slice_get modules number ≡ Some m → result ≡ module_at modules (m.path ++ name.now ∷ []) }
 {
     at(scopes, number)?.submodules.get(name).copied()
 }
 
 /// The item or alias of that name in the module of a number.
 pub fn part_of(scopes: &[Scope], number: usize, name: &Text) -> Option<EnvPart>
-    ensures { (modules : List Module) → Knows scopes.now modules → result ≡ meaning_of (named_at modules number) name.now }
+    ensures { (modules : List Module) → Knows scopes.now modules
+        → result ≡ meaning_of (named_at modules number) name.now }
 {
     at(scopes, number)?.names.get(name).copied()
 }
 
 /// The number of the module of a path.
 fn find_module(scopes: &[Scope], path: &[Text]) -> Option<usize>
-    ensures { (modules : List Module) → Knows scopes.now modules → result ≡ module_at modules path.now }
+    ensures { (modules : List Module) → Knows scopes.now modules
+        → result ≡ module_at modules path.now }
 {
     if scopes.is_empty() {
         return None;
@@ -105,7 +107,8 @@ fn test_new_path(scopes: &[Scope], number: usize, path: &[Text]) -> Result<(), E
     ensures told { (before : List Module) → Knows scopes.now before → number ≡ length before
         → Tells result (repeats EnvFaultKind.DuplicateModule (place (length before) part.Module)
         (option_map (λ earlier. place earlier part.Module) (module_at before path.now))) }
-    ensures absent { (before : List Module) → Knows scopes.now before → OnOk result (module_at before path.now ≡ None) }
+    ensures absent { (before : List Module) → Knows scopes.now before
+        → OnOk result (module_at before path.now ≡ None) }
 {
     match find_module(scopes, path) {
         None => Ok(()),
@@ -121,8 +124,10 @@ fn test_new_path(scopes: &[Scope], number: usize, path: &[Text]) -> Result<(), E
 fn test_path(scopes: &[Scope], number: usize, path: &[Text]) -> Result<Option<usize>, EnvFault>
     ensures told { (before : List Module) → Knows scopes.now before → number ≡ length before
         → Tells result (path_faults before path.now) }
-    ensures absent { (before : List Module) → Knows scopes.now before → OnOk result (module_at before path.now ≡ None) }
-    ensures parent { (before : List Module) → Knows scopes.now before → IfOk result (λ parent. IsParent before parent path.now) }
+    ensures absent { (before : List Module) → Knows scopes.now before
+        → OnOk result (module_at before path.now ≡ None) }
+    ensures parent { (before : List Module) → Knows scopes.now before
+        → IfOk result (λ parent. IsParent before parent path.now) }
 {
     test_new_path(scopes, number, path)?;
     match path.split_last() {

@@ -187,8 +187,10 @@ fn take_from(
     steps: u128,
     segment: &Text,
 ) -> Advance
-    ensures { (modules : List Module) → Knows scopes.now modules → AreEnds ends.now modules → IsModule modules number
-        → TrailAdvances modules ends.now (record { stand = Stand.Module number head; steps = steps }) segment.now result }
+    ensures { (modules : List Module) → Knows scopes.now modules → AreEnds ends.now modules
+        → IsModule modules number
+        → TrailAdvances modules ends.now
+        (record { stand = Stand.Module number head; steps = steps }) segment.now result }
 {
     match next_of_segment(scopes, number, head, segment) {
         Next::Goes(to, after) => Advance::Comes(Trail {
@@ -209,8 +211,8 @@ fn take_from(
 
 /// A trail with one more segment.
 pub fn take_segment(scopes: &[Scope], ends: &Ends, trail: Trail, segment: &Text) -> Advance
-    ensures { (modules : List Module) → Knows scopes.now modules → AreEnds ends.now modules → IsInside modules trail.stand
-        → TrailAdvances modules ends.now trail segment.now result }
+    ensures { (modules : List Module) → Knows scopes.now modules → AreEnds ends.now modules
+        → IsInside modules trail.stand → TrailAdvances modules ends.now trail segment.now result }
 {
     match trail.stand {
         Stand::Item(_) => Advance::Stops,
@@ -222,9 +224,10 @@ pub fn take_segment(scopes: &[Scope], ends: &Ends, trail: Trail, segment: &Text)
 
 /// The trail along segments, from the module of a number.
 pub fn follow(scopes: &[Scope], ends: &Ends, number: usize, segments: &[Text]) -> Option<Trail>
-    ensures { (modules : List Module) → Knows scopes.now modules → KnowsEnds ends.now modules → IsModule modules number
-        → (steps : ℕ)
-        → steps < 2 ^ 128 → leads_within steps modules number Head.Start segments.now ≡ carried_to_end steps modules result }
+    ensures { (modules : List Module) → Knows scopes.now modules → KnowsEnds ends.now modules
+        → IsModule modules number → (steps : ℕ) → steps < 2 ^ 128
+        → leads_within steps modules number Head.Start segments.now
+        ≡ carried_to_end steps modules result }
 {
     let mut trail = Trail {
         stand: Stand::Module(number, Head::Start),
