@@ -22,18 +22,29 @@ fn a_new_generator_has_no_urls(rt: HostRuntime) -> Result<(), NoMemory> {
     Ok(())
 }
 
+fn add_base(
+    alloc: Global,
+    bases: &mut BTreeMap<Text, Text>,
+    crate_name: &str,
+    url: &str,
+) -> Result<(), NoMemory> {
+    let crate_name = Text::new(alloc, crate_name)?;
+    bases.insert(crate_name, Text::new(alloc, url)?)?;
+    Ok(())
+}
+
+// A generator with a URL for all crates and two of their own.
+fn with_two(alloc: Global) -> Result<DocsUrlGenerator, NoMemory> {
+    let mut bases = BTreeMap::new(alloc);
+    add_base(alloc, &mut bases, "std", "https://doc.rust-lang.org")?;
+    add_base(alloc, &mut bases, "icu", "https://icu.example")?;
+    let default = Text::new(alloc, "https://docs.example")?;
+    Ok(DocsUrlGenerator::with_base_urls(Some(default), bases))
+}
+
 #[test]
 fn crates_have_their_own_urls(rt: HostRuntime) -> Result<(), NoMemory> {
-    let mut bases = BTreeMap::new(rt.alloc());
-    for (crate_name, url) in [
-        ("std", "https://doc.rust-lang.org"),
-        ("icu", "https://icu.example"),
-    ] {
-        let crate_name = Text::new(rt.alloc(), crate_name)?;
-        bases.insert(crate_name, Text::new(rt.alloc(), url)?)?;
-    }
-    let default = Text::new(rt.alloc(), "https://docs.example")?;
-    let urls = DocsUrlGenerator::with_base_urls(Some(default), bases);
+    let urls = with_two(rt.alloc())?;
     assert_eq!(rt; urls.default_url(), Some("https://docs.example"));
     let cases = [
         ("icu", "https://icu.example"),
