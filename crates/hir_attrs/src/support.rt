@@ -154,7 +154,8 @@ impl BackendAttrSupport {
     pub fn with(self, flag: SupportFlag) -> BackendAttrSupport
         ensures value { result ≡ with_flag self flag }
         ensures on { flag_on result flag ≡ true }
-        ensures others { (other : SupportFlag) → other ≢ flag → flag_on result other ≡ flag_on self other }
+        ensures others { (other : SupportFlag) → other ≢ flag
+            → flag_on result other ≡ flag_on self other }
     {
         self.turned_on(flag)
     }

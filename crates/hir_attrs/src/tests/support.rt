@@ -55,24 +55,51 @@ fn flags_have_the_names_of_the_fields(rt: HostRuntime) {
     }
 }
 
+// Whether the flag at that place is on, and no other.
+fn has_only(support: BackendAttrSupport, at: usize) -> bool {
+    for (other_at, other) in SupportFlag::all().iter().enumerate() {
+        if support.has(*other) != (other_at == at) {
+            return false;
+        }
+    }
+    true
+}
+
 #[test]
 fn one_flag_is_turned_on(rt: HostRuntime) {
     for (at, flag) in SupportFlag::all().iter().enumerate() {
-        let support = BackendAttrSupport::none().with(*flag);
-        for (other_at, other) in SupportFlag::all().iter().enumerate() {
-            assert_eq!(rt; support.has(*other), other_at == at);
-        }
+        assert!(rt; has_only(BackendAttrSupport::none().with(*flag), at));
     }
+}
+
+// The support with these flags on.
+fn with_all(flags: &[SupportFlag]) -> BackendAttrSupport {
+    let mut support = BackendAttrSupport::none();
+    for flag in flags {
+        support = support.with(*flag);
+    }
+    support
+}
+
+// The first field, one in the middle and the last.
+fn fields(support: BackendAttrSupport) -> [bool; 3] {
+    [
+        support.namespacing,
+        support.option,
+        support.utf16_writeables,
+    ]
 }
 
 #[test]
 fn flags_are_the_fields(rt: HostRuntime) {
-    let none = BackendAttrSupport::none();
-    assert!(rt; !none.namespacing && !none.option && !none.utf16_writeables);
-    let first = none.with(SupportFlag::Namespacing);
-    assert!(rt; first.namespacing && !first.option && !first.utf16_writeables);
-    let two = first.with(SupportFlag::Option).with(SupportFlag::Option);
-    assert!(rt; two.namespacing && two.option && !two.utf16_writeables);
-    let last = none.with(SupportFlag::Utf16Writeables);
-    assert!(rt; !last.namespacing && !last.option && last.utf16_writeables);
+    let first = SupportFlag::Namespacing;
+    let middle = SupportFlag::Option;
+    let last = SupportFlag::Utf16Writeables;
+    assert_eq!(rt; fields(with_all(&[])), [false, false, false]);
+    assert_eq!(rt; fields(with_all(&[first])), [true, false, false]);
+    assert_eq!(rt;
+        fields(with_all(&[first, middle, middle])),
+        [true, true, false]
+    );
+    assert_eq!(rt; fields(with_all(&[last])), [false, false, true]);
 }
