@@ -3,10 +3,10 @@
 ghost use Rattle.std.specs.Prelude.{◌≡◌, option_to_list};
 ghost use Rattle.std.specs.Option.{option_copied};
 ghost use Rattle.bridge_decl.specs.declared.types.TypeName.{out-TypeName};
-ghost use Rattle.bridge_tool.specs.Checks.{own_paths, type_paths, type_lifetimes, receiver_lifetimes};
+ghost use Rattle.bridge_tool.specs.Checks.{own_paths, type_paths, type_lifetimes, borrow_lifetimes, receiver_lifetimes};
 ghost use Rattle.bridge_tool.specs.Methods.{methods_of};
 
-use bridge_ast::{Item, Lifetime, Method, PathType, SelfParam, TypeName};
+use bridge_ast::{Item, Lifetime, Method, Mutability, PathType, SelfParam, TypeName};
 
 /// The methods of an item: none for a trait, whose methods are declared otherwise, and for a function.
 pub fn methods(item: &Item) -> &[Method]
@@ -51,17 +51,21 @@ pub fn written_lifetime(ty: &TypeName) -> Option<&Lifetime>
     }
 }
 
+fn borrow_lifetime(borrow: &Option<(Lifetime, Mutability)>) -> Option<&Lifetime>
+    ensures { option_to_list (option_copied result) ≡ borrow_lifetimes borrow.now }
+{
+    match borrow {
+        Some((lifetime, _)) => Some(lifetime),
+        None => None,
+    }
+}
+
 /// The lifetime of a receiver that is borrowed.
 pub fn receiver_lifetime(receiver: &Option<SelfParam>) -> Option<&Lifetime>
     ensures { option_to_list (option_copied result) ≡ receiver_lifetimes receiver.now }
 {
     match receiver {
-        Some(
-            SelfParam {
-                reference: Some((lifetime, _)),
-                ..
-            },
-        ) => Some(lifetime),
-        _ => None,
+        Some(receiver) => borrow_lifetime(&receiver.reference),
+        None => None,
     }
 }
