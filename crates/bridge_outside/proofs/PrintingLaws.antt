@@ -1,6 +1,6 @@
 -- How printings follow one another.
 use Rattle.std.proofs.Common.{◌≡◌, ◌+◌, ◌≤◌, ◌++◌, ◌∙◌, ◌⊎◌, inl, inr, [], ℕ, List, true, false, Option, None, Some, Result, Ok, Err, IsSome, IsNone, is_some, length, take, drop, refl, sym, ap, subst, append_assoc, arith, length-drop}
-use Rattle.std.proofs.lemmas.List.{append-nil}
+use Rattle.std.proofs.lemmas.List.{append-nil, append_cancel_left}
 use Rattle.std.proofs.Math.Seq.{take-add}
 use Rattle.bridge_outside.specs.Outside.{Rose, SinkState, Writes, taken_with}
 use Rattle.bridge_outside.specs.Printing.{Printing, Prints, Delivers, IsEndOf, begins}
@@ -111,6 +111,36 @@ prints_held {sink = sink} {out = out} {out' = out'} {text = text} running held s
   failed = λ failed begun. not_both out.fault begun (ap is_some (sym same ∙ failed));
   no_memory = λ memory. refl;
   never_falls = omega arith;
+}
+
+-- what was held and a text went to the sink, whole or up to a fault
+pub prints_sent : {T : Type 0} {sink sink' : SinkState} {out out' : Printing} {text : List ℕ} (whole : List ℕ) (sent : Result T SinkFault)
+    → whole ≡ out.held ++ text → IsNone out.fault → Delivers sink sink' whole sent → IsEndOf out' sent → Prints sink out sink' out' text
+prints_sent {out = out} {out' = out'} whole (Ok u) is running d end =
+    let nothing_left : d.rest ≡ [] = append_cancel_left d.sent d.rest [] (d.parts ∙ sym d.whole ∙ sym (append-nil d.sent)) in
+    record {
+      sent = d.sent;
+      rest = d.rest;
+      parts = d.parts ∙ is;
+      took = d.took;
+      holds = λ none. nothing_left ∙ sym (ap (λ (out : Printing). out.held) end);
+      stuck = λ stopped. not_both out.fault running stopped;
+      steady = λ none. d.steady;
+      failed = λ failed begun. not_both out'.fault (ap (λ (out : Printing). is_some out.fault) end) (ap is_some failed);
+      no_memory = λ memory. d.steady;
+      never_falls = d.never_falls;
+    }
+prints_sent {out = out} {out' = out'} whole (Err fault) is running d end = record {
+  sent = d.sent;
+  rest = d.rest;
+  parts = d.parts ∙ is;
+  took = d.took;
+  holds = λ none. not_both out'.fault none (ap is_some end);
+  stuck = λ stopped. not_both out.fault running stopped;
+  steady = λ none. not_both out'.fault none (ap is_some end);
+  failed = λ failed begun. let same : fault ≡ Failed = cc in d.failed (ap Err same);
+  no_memory = λ memory. let same : fault ≡ NoMemory = cc in d.no_memory (ap Err same);
+  never_falls = d.never_falls;
 }
 
 -- a text under another name
