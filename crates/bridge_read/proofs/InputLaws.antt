@@ -144,3 +144,8 @@ module _ (bytes : List ℕ) (d : Data) (json : IsJsonOf bytes d) where
     read_only env is input spells =
         ap (λ modules. record { env = modules; validator = declared.validator; config = declared.config; urls = declared.urls }) is
         ∙ ap input_by (same_declared input spells)
+
+-- bytes that have a value are not told to have none
+pub none_told : (bytes : List ℕ) (d : Data) (told : InputFault) (fault : Fault) → IsJsonOf bytes d → IsNoJson bytes told → IsToldAs told fault
+none_told bytes d (NotDeclarations what pointer) fault json no_json = absurd (no_json.none (d, json))
+none_told bytes d NoMemory fault json no_json = tt

@@ -3,11 +3,11 @@ pub mod ChoiceLaws
 pub mod CountLemmas
 pub mod CutLaws
 pub mod DictionaryLaws
-pub mod EntryLemmas
+pub mod FieldLemmas
 pub mod FormLaws
 pub mod InputLaws
-pub mod KeyTests
 pub mod LeadLemmas
+pub mod ListLemmas
 pub mod LiveLemmas
 pub mod ModuleLemmas
 pub mod NameLemmas
@@ -19,6 +19,5 @@ pub mod PointerLemmas
 pub mod Proved
 pub mod SettingLemmas
 pub mod TrueLemmas
-pub mod TwoLemmas
 pub mod WordLemmas
 pub mod forms

@@ -1,24 +1,44 @@
 -- Modules that are read one after the other, and the name of a module.
-use Rattle.std.proofs.Common.{◌≡◌, List, [], ◌∷◌, ◌++◌, Result, refl, sym, ap, ◌∙◌}
+use Rattle.std.proofs.Common.{◌≡◌, ℕ, List, ◌++◌, Result, Option, Some, None, Ok, Err, refl}
+use Rattle.std.specs.Prelude.{option_and_then}
+use Rattle.serde_json.specs.Data.{Data, null, boolean, number, string, array, object, Items}
+use Rattle.serde_json.specs.Find.{as_str}
 use Rattle.bridge_read.specs.declared.fault.Fault.{Fault}
 use Rattle.bridge_read.specs.declared.fault.ReadFault.{ReadFault}
 use Rattle.bridge_read.specs.declared.fault.ReadFault.TheVariants.{Bad, NoMemory}
-use Rattle.bridge_read.specs.Reading.{◌>>=◌, Stops}
-use Rattle.bridge_read.specs.forms.Modules.{in_a_row}
+use Rattle.bridge_read.specs.declared.keys.Key.TheVariants as key
+use Rattle.bridge_read.specs.Reading.{◌>>=◌, Stops, each_of, needed, needed_of, text_of, under}
+use Rattle.bridge_read.specs.forms.Modules.{any_text, in_a_row, name_of, or_empty}
 
--- what stops a reader stops what goes on from it
-pub stops_on : {A B : Type 0} (fault : ReadFault) (read : Result A Fault) (f : A → Result B Fault) → Stops fault read → Stops fault (read >>= f)
-stops_on (Bad fault) read f e = rw e refl
-stops_on NoMemory read f e = tt
+-- the modules that were read, followed by those that are read of the entries that are left
+abbrev pub modules_after : {A : Type 0} → (Data → Result (List A) Fault) → ℕ → List A → Items → Result (List A) Fault
+modules_after read n before ds = each_of read n ds >>= (λ lists. Ok (before ++ in_a_row lists))
 
-pub joined_more : {A : Type 0} (lists : List (List A)) (last : List A) → in_a_row (lists ++ last ∷ []) ≡ in_a_row lists ++ last
-joined_more [] last = append_none last
-  where
-    append_none : {A : Type 0} (xs : List A) → xs ++ [] ≡ xs
-    append_none [] = refl
-    append_none (x ∷ xs) = ap (λ ys. x ∷ ys) (append_none xs)
-joined_more (list ∷ lists) last = ap (λ xs. list ++ xs) (joined_more lists last) ∙ sym (append_assoc list (in_a_row lists) last)
-  where
-    append_assoc : {A : Type 0} (xs ys zs : List A) → (xs ++ ys) ++ zs ≡ xs ++ (ys ++ zs)
-    append_assoc [] ys zs = refl
-    append_assoc (x ∷ xs) ys zs = ap (λ l. x ∷ l) (append_assoc xs ys zs)
+named_at : (x : Option Data) (name : List ℕ) → needed_of text_of key.Name x ≡ Ok name → (needed_of any_text.read key.Name x ≡ Ok tt) × (name ≡ or_empty (option_and_then as_str x))
+unfolding any_text text_of
+named_at None name e = absurd cc
+named_at (Some null) name e = absurd cc
+named_at (Some (boolean b)) name e = absurd cc
+named_at (Some (number n)) name e = absurd cc
+named_at (Some (string s)) name e = (refl, cc)
+named_at (Some (array ds)) name e = absurd cc
+named_at (Some (object ms)) name e = absurd cc
+
+not_named_at : (x : Option Data) (fault : Fault) → needed_of text_of key.Name x ≡ Err fault → needed_of any_text.read key.Name x ≡ Err fault
+unfolding any_text text_of
+not_named_at None fault e = cc
+not_named_at (Some null) fault e = cc
+not_named_at (Some (boolean b)) fault e = cc
+not_named_at (Some (number n)) fault e = cc
+not_named_at (Some (string s)) fault e = absurd cc
+not_named_at (Some (array ds)) fault e = cc
+not_named_at (Some (object ms)) fault e = cc
+
+-- the name that is read is that of the module
+pub named : (d : Data) (name : List ℕ) → needed text_of key.Name d ≡ Ok name → (needed any_text.read key.Name d ≡ Ok tt) × (name ≡ name_of d)
+named d name e = named_at (under key.Name d) name e
+
+-- and what is no name is no text
+pub not_named : (d : Data) (fault : ReadFault) → Stops fault (needed text_of key.Name d) → Stops fault (needed any_text.read key.Name d)
+not_named d (Bad fault) e = not_named_at (under key.Name d) fault e
+not_named d NoMemory e = tt

@@ -102,8 +102,8 @@ Byte = Single byte_of
 abbrev pub Integer : Proved ℤ
 Integer = Single integer_of
 
-abbrev pub One_word : {W : Type 0} → (W → List ℕ) → List W → Proved W
-One_word text_of_word words = Refined (find_word text_of_word words) Text
+abbrev pub One_word : {W : Type 0} → List (List ℕ × W) → Proved W
+One_word words = Refined (find_word words) Text
 
 abbrev pub Some_list : {A : Type 0} → Proved A → Proved (List A)
 Some_list p = Refined not_empty (List_of p)

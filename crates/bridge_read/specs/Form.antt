@@ -305,13 +305,13 @@ flag = single flag_of
 abbrev pub mapped : {A B : Type 0} → (A → B) → Form A → Form B
 mapped f form = refined (λ x. Some (f x)) form
 
--- one of the words, each of which has its text
-abbrev pub find_word : {W : Type 0} → (W → List ℕ) → List W → List ℕ → Option W
-find_word text_of [] written = None
-find_word text_of (word ∷ words) written = if bytes_eq (text_of word) written then Some word else find_word text_of words written
+-- one of the words, each of which stands for a value
+abbrev pub find_word : {W : Type 0} → List (List ℕ × W) → List ℕ → Option W
+find_word [] written = None
+find_word (word ∷ words) written = if bytes_eq word.0 written then Some word.1 else find_word words written
 
-abbrev pub one_word : {W : Type 0} → (W → List ℕ) → List W → Form W
-one_word text_of words = refined (find_word text_of words) text
+abbrev pub one_word : {W : Type 0} → List (List ℕ × W) → Form W
+one_word words = refined (find_word words) text
 
 -- a whole number below 256
 abbrev pub byte : Form ℕ

@@ -14,85 +14,80 @@ use Rattle.bridge_decl.specs.declared.docs.RustLinkDisplay.{RustLinkDisplay}
 use Rattle.bridge_decl.specs.declared.docs.RustLinkDisplay.TheVariants as display
 
 -- the name of a primitive type
-unfoldable pub primitive_text : PrimitiveType → List ℕ
-primitive_text primitive.i8 = codes "i8"
-primitive_text primitive.u8 = codes "u8"
-primitive_text primitive.i16 = codes "i16"
-primitive_text primitive.u16 = codes "u16"
-primitive_text primitive.i32 = codes "i32"
-primitive_text primitive.u32 = codes "u32"
-primitive_text primitive.i64 = codes "i64"
-primitive_text primitive.u64 = codes "u64"
-primitive_text primitive.isize = codes "isize"
-primitive_text primitive.usize = codes "usize"
-primitive_text primitive.i128 = codes "i128"
-primitive_text primitive.u128 = codes "u128"
-primitive_text primitive.f32 = codes "f32"
-primitive_text primitive.f64 = codes "f64"
-primitive_text primitive.bool = codes "bool"
-primitive_text primitive.char = codes "char"
-primitive_text primitive.byte = codes "byte"
-
-unfoldable pub every_primitive : List PrimitiveType
-every_primitive = primitive.i8 ∷ primitive.u8 ∷ primitive.i16 ∷ primitive.u16 ∷ primitive.i32 ∷ primitive.u32 ∷ primitive.i64 ∷ primitive.u64 ∷ primitive.isize ∷ primitive.usize ∷ primitive.i128 ∷ primitive.u128 ∷ primitive.f32 ∷ primitive.f64 ∷ primitive.bool ∷ primitive.char ∷ primitive.byte ∷ []
+unfoldable pub primitive_words : List (List ℕ × PrimitiveType)
+primitive_words =
+    (codes "i8", primitive.i8) ∷
+    (codes "u8", primitive.u8) ∷
+    (codes "i16", primitive.i16) ∷
+    (codes "u16", primitive.u16) ∷
+    (codes "i32", primitive.i32) ∷
+    (codes "u32", primitive.u32) ∷
+    (codes "i64", primitive.i64) ∷
+    (codes "u64", primitive.u64) ∷
+    (codes "isize", primitive.isize) ∷
+    (codes "usize", primitive.usize) ∷
+    (codes "i128", primitive.i128) ∷
+    (codes "u128", primitive.u128) ∷
+    (codes "f32", primitive.f32) ∷
+    (codes "f64", primitive.f64) ∷
+    (codes "bool", primitive.bool) ∷
+    (codes "char", primitive.char) ∷
+    (codes "byte", primitive.byte) ∷
+    []
 
 -- the name of an encoding
-unfoldable pub encoding_text : StringEncoding → List ℕ
-encoding_text encoding.Utf8 = codes "utf8"
-encoding_text encoding.UnvalidatedUtf8 = codes "unvalidated_utf8"
-encoding_text encoding.UnvalidatedUtf16 = codes "unvalidated_utf16"
-
-unfoldable pub every_encoding : List StringEncoding
-every_encoding = encoding.Utf8 ∷ encoding.UnvalidatedUtf8 ∷ encoding.UnvalidatedUtf16 ∷ []
+unfoldable pub encoding_words : List (List ℕ × StringEncoding)
+encoding_words =
+    (codes "utf8", encoding.Utf8) ∷
+    (codes "unvalidated_utf8", encoding.UnvalidatedUtf8) ∷
+    (codes "unvalidated_utf16", encoding.UnvalidatedUtf16) ∷
+    []
 
 -- the name of a kind of documented path
-unfoldable pub doc_text : DocType → List ℕ
-doc_text doc.Struct = codes "Struct"
-doc_text doc.StructField = codes "StructField"
-doc_text doc.Enum = codes "Enum"
-doc_text doc.EnumVariant = codes "EnumVariant"
-doc_text doc.EnumVariantField = codes "EnumVariantField"
-doc_text doc.Trait = codes "Trait"
-doc_text doc.FnInStruct = codes "FnInStruct"
-doc_text doc.FnInTypedef = codes "FnInTypedef"
-doc_text doc.FnInEnum = codes "FnInEnum"
-doc_text doc.FnInTrait = codes "FnInTrait"
-doc_text doc.DefaultFnInTrait = codes "DefaultFnInTrait"
-doc_text doc.Fn = codes "Fn"
-doc_text doc.Mod = codes "Mod"
-doc_text doc.Constant = codes "Constant"
-doc_text doc.AssociatedConstantInEnum = codes "AssociatedConstantInEnum"
-doc_text doc.AssociatedConstantInTrait = codes "AssociatedConstantInTrait"
-doc_text doc.AssociatedConstantInStruct = codes "AssociatedConstantInStruct"
-doc_text doc.Macro = codes "Macro"
-doc_text doc.AssociatedTypeInEnum = codes "AssociatedTypeInEnum"
-doc_text doc.AssociatedTypeInTrait = codes "AssociatedTypeInTrait"
-doc_text doc.AssociatedTypeInStruct = codes "AssociatedTypeInStruct"
-doc_text doc.Typedef = codes "Typedef"
-
-unfoldable pub every_doc : List DocType
-every_doc = doc.Struct ∷ doc.StructField ∷ doc.Enum ∷ doc.EnumVariant ∷ doc.EnumVariantField ∷ doc.Trait ∷ doc.FnInStruct ∷ doc.FnInTypedef ∷ doc.FnInEnum ∷ doc.FnInTrait ∷ doc.DefaultFnInTrait ∷ doc.Fn ∷ doc.Mod ∷ doc.Constant ∷ doc.AssociatedConstantInEnum ∷ doc.AssociatedConstantInTrait ∷ doc.AssociatedConstantInStruct ∷ doc.Macro ∷ doc.AssociatedTypeInEnum ∷ doc.AssociatedTypeInTrait ∷ doc.AssociatedTypeInStruct ∷ doc.Typedef ∷ []
+unfoldable pub doc_words : List (List ℕ × DocType)
+doc_words =
+    (codes "Struct", doc.Struct) ∷
+    (codes "StructField", doc.StructField) ∷
+    (codes "Enum", doc.Enum) ∷
+    (codes "EnumVariant", doc.EnumVariant) ∷
+    (codes "EnumVariantField", doc.EnumVariantField) ∷
+    (codes "Trait", doc.Trait) ∷
+    (codes "FnInStruct", doc.FnInStruct) ∷
+    (codes "FnInTypedef", doc.FnInTypedef) ∷
+    (codes "FnInEnum", doc.FnInEnum) ∷
+    (codes "FnInTrait", doc.FnInTrait) ∷
+    (codes "DefaultFnInTrait", doc.DefaultFnInTrait) ∷
+    (codes "Fn", doc.Fn) ∷
+    (codes "Mod", doc.Mod) ∷
+    (codes "Constant", doc.Constant) ∷
+    (codes "AssociatedConstantInEnum", doc.AssociatedConstantInEnum) ∷
+    (codes "AssociatedConstantInTrait", doc.AssociatedConstantInTrait) ∷
+    (codes "AssociatedConstantInStruct", doc.AssociatedConstantInStruct) ∷
+    (codes "Macro", doc.Macro) ∷
+    (codes "AssociatedTypeInEnum", doc.AssociatedTypeInEnum) ∷
+    (codes "AssociatedTypeInTrait", doc.AssociatedTypeInTrait) ∷
+    (codes "AssociatedTypeInStruct", doc.AssociatedTypeInStruct) ∷
+    (codes "Typedef", doc.Typedef) ∷
+    []
 
 -- the name of a display of a link
-unfoldable pub display_text : RustLinkDisplay → List ℕ
-display_text display.Normal = codes "normal"
-display_text display.Compact = codes "compact"
-display_text display.Hidden = codes "hidden"
-
-unfoldable pub every_display : List RustLinkDisplay
-every_display = display.Normal ∷ display.Compact ∷ display.Hidden ∷ []
+unfoldable pub display_words : List (List ℕ × RustLinkDisplay)
+display_words =
+    (codes "normal", display.Normal) ∷
+    (codes "compact", display.Compact) ∷
+    (codes "hidden", display.Hidden) ∷
+    []
 
 -- the name of a kind of items
-unfoldable pub item_kind_text : ItemKind → List ℕ
-item_kind_text item.Struct = codes "struct"
-item_kind_text item.OutStruct = codes "out_struct"
-item_kind_text item.Opaque = codes "opaque"
-item_kind_text item.Enum = codes "enum"
-item_kind_text item.Trait = codes "trait"
-item_kind_text item.Function = codes "function"
-
-unfoldable pub every_item_kind : List ItemKind
-every_item_kind = item.Struct ∷ item.OutStruct ∷ item.Opaque ∷ item.Enum ∷ item.Trait ∷ item.Function ∷ []
+unfoldable pub item_kind_words : List (List ℕ × ItemKind)
+item_kind_words =
+    (codes "struct", item.Struct) ∷
+    (codes "out_struct", item.OutStruct) ∷
+    (codes "opaque", item.Opaque) ∷
+    (codes "enum", item.Enum) ∷
+    (codes "trait", item.Trait) ∷
+    (codes "function", item.Function) ∷
+    []
 
 -- the words for a kind of fault
 unfoldable pub kind_text : InputKind → List ℕ

@@ -1,2 +1,5 @@
 pub mod Answers
+pub mod Left
+pub mod Names
 pub mod Places
+pub mod Tables

@@ -3,27 +3,20 @@
 ghost use Rattle.std.specs.Prelude.{◌≡◌, None, Some};
 ghost use Rattle.std.specs.Str.{all_ascii_digits};
 ghost use Rattle.serde_json.specs.View.{view};
-ghost use Rattle.bridge_read.specs.Reading.{Gives, here, list_of};
+ghost use Rattle.bridge_read.specs.Reading.{Gives, list_of};
 ghost use Rattle.bridge_read.specs.forms.Attrs.{condition_called, condition_keys, condition_under, condition_within, condition_word, argument_of, digits, literal_called, literal_keys, literal_under, literal_word, no_attrs, sole_char};
 
-use crate::fault::{Fault, InputKind, ReadFault};
+use crate::fault::ReadFault;
+use crate::fields::Fields;
 use crate::keys::Key;
-use crate::objects::{in_entry, in_member, only, sole};
-use crate::reading::{
-    FromForm, entries, held, listed, needed, needed_some, optional, room_for, text, two,
-};
+use crate::objects::{in_entry, in_member};
+use crate::reading::{FromForm, entries, room_for, text, two};
 use bridge_ast::{
     Assign, Attrs, Boxed, DiplomatBackendAttr, DiplomatBackendAttrCfg, Items, Lit, Meta, MetaValue,
     RenameAttr, RenameFault, Text,
 };
 use serde_json::Value;
 use std::alloc::Global;
-
-fn wrong(alloc: Global) -> ReadFault
-    ensures { result ≡ ReadFault.Bad (here InputKind.WrongForm) }
-{
-    ReadFault::Bad(Fault::here(alloc, InputKind::WrongForm))
-}
 
 /// The condition for which a word stands: `*` or `auto`.
 #[tactic(auto, unfolding(crate::specs::forms::Attrs::condition_called))]
@@ -44,21 +37,22 @@ fn condition_called(word: &str) -> Option<DiplomatBackendAttrCfg>
 fn condition_word(alloc: Global, value: &Value) -> Result<DiplomatBackendAttrCfg, ReadFault>
     ensures { Gives result (condition_word.read (view value.now)) }
 {
-    condition_called(text(alloc, value)?).ok_or(wrong(alloc))
+    condition_called(text(alloc, value)?).ok_or(ReadFault::wrong_form(alloc))
 }
 
 /// The conditions of a list.
 #[cycle(conditions)]
 fn condition_list(
     alloc: Global,
-    value: &Value,
+    value: Value,
     levels: usize,
 ) -> Result<Items<DiplomatBackendAttrCfg>, ReadFault>
-    ensures { Gives result (list_of (condition_within levels).read (view value.now)) }
+    ensures { Gives result (list_of (condition_within levels).read (view value)) }
 {
     let entries = entries(alloc, value)?;
     let mut list = room_for(alloc, entries.len())?;
-    for (number, entry) in entries.iter().enumerate() {
+    for entry in entries {
+        let number = list.as_slice().len();
         list.push(in_entry(number, condition_within(alloc, entry, levels))?)?;
     }
     Ok(list)
@@ -69,10 +63,10 @@ fn condition_list(
 fn condition_under(
     alloc: Global,
     key: Key,
-    value: &Value,
+    value: Value,
     levels: usize,
 ) -> Result<DiplomatBackendAttrCfg, ReadFault>
-    ensures { Gives result ((condition_under (condition_within levels) key).read (view value.now)) }
+    ensures { Gives result ((condition_under (condition_within levels) key).read (view value)) }
 {
     match key {
         Key::Backend => Ok(DiplomatBackendAttrCfg::BackendName(Text::from_form(alloc, value)?)),
@@ -86,28 +80,27 @@ fn condition_under(
         }
         Key::Any => Ok(DiplomatBackendAttrCfg::Any(condition_list(alloc, value, levels)?)),
         Key::All => Ok(DiplomatBackendAttrCfg::All(condition_list(alloc, value, levels)?)),
-        _ => Err(wrong(alloc)),
+        _ => Err(ReadFault::wrong_form(alloc)),
     }
 }
 
 /// A condition in which conditions nest at most so deep.
 #[cycle(conditions)]
+#[tactic(auto, unfolding(crate::specs::inside::Left::are_apart, crate::specs::Keys::key_text))]
 fn condition_within(
     alloc: Global,
-    value: &Value,
+    value: Value,
     levels: usize,
 ) -> Result<DiplomatBackendAttrCfg, ReadFault>
-    ensures { Gives result ((condition_within levels).read (view value.now)) }
+    ensures { Gives result ((condition_within levels).read (view value)) }
 {
     let Some(inner) = levels.checked_sub(1) else {
-        return Err(wrong(alloc));
+        return Err(ReadFault::wrong_form(alloc));
     };
     if let Some(_) = value.as_str() {
-        return condition_word(alloc, value);
+        return condition_word(alloc, &value);
     }
-    let keys = condition_keys();
-    only(alloc, value, keys)?;
-    let (key, found) = sole(alloc, value, keys)?;
+    let (key, found) = Fields::of(alloc, value, condition_keys())?.sole(alloc)?;
     in_member(alloc, key, condition_under(alloc, key, found, inner))
 }
 
@@ -124,7 +117,7 @@ impl FromForm for DiplomatBackendAttrCfg {
 
     ghost form = { condition.read };
 
-    fn from_form(alloc: Global, value: &Value) -> Result<DiplomatBackendAttrCfg, ReadFault> {
+    fn from_form(alloc: Global, value: Value) -> Result<DiplomatBackendAttrCfg, ReadFault> {
         condition_within(alloc, value, 128)
     }
 }
@@ -156,14 +149,14 @@ fn are_digits(bytes: &[u8]) -> bool
 
 /// A text of one or more decimal digits.
 #[tactic(auto, unfolding(crate::specs::forms::Attrs::digits))]
-fn digits(alloc: Global, value: &Value) -> Result<Text, ReadFault>
-    ensures { Gives result (digits.read (view value.now)) }
+fn digits(alloc: Global, value: Value) -> Result<Text, ReadFault>
+    ensures { Gives result (digits.read (view value)) }
 {
-    let written = text(alloc, value)?;
-    if written.is_empty() || !are_digits(written.as_bytes()) {
-        return Err(wrong(alloc));
+    let written = Text::from_form(alloc, value)?;
+    if written.as_str().is_empty() || !are_digits(written.as_str().as_bytes()) {
+        return Err(ReadFault::wrong_form(alloc));
     }
-    Ok(Text::new(alloc, written)?)
+    Ok(written)
 }
 
 /// The literal for which a word stands: `other`.
@@ -174,28 +167,28 @@ fn literal_word(alloc: Global, value: &Value) -> Result<Lit, ReadFault>
     if text(alloc, value)? == "other" {
         Ok(Lit::Other)
     } else {
-        Err(wrong(alloc))
+        Err(ReadFault::wrong_form(alloc))
     }
 }
 
 /// What stands under the key of a literal, by the key.
-fn literal_under(alloc: Global, key: Key, value: &Value) -> Result<Lit, ReadFault>
-    ensures { Gives result ((literal_under key).read (view value.now)) }
+fn literal_under(alloc: Global, key: Key, value: Value) -> Result<Lit, ReadFault>
+    ensures { Gives result ((literal_under key).read (view value)) }
 {
     match key {
         Key::Bool => Ok(Lit::Bool(bool::from_form(alloc, value)?)),
-        Key::Char => match sole_char(text(alloc, value)?) {
+        Key::Char => match sole_char(text(alloc, &value)?) {
             Some(char) => Ok(Lit::Char(char)),
-            None => Err(wrong(alloc)),
+            None => Err(ReadFault::wrong_form(alloc)),
         },
         Key::Byte => Ok(Lit::Byte(u8::from_form(alloc, value)?)),
         Key::Int => Ok(Lit::Int(digits(alloc, value)?)),
         Key::Float => {
-            text(alloc, value)?;
+            text(alloc, &value)?;
             Ok(Lit::Float)
         }
         Key::Str => Ok(Lit::Str(Text::from_form(alloc, value)?)),
-        _ => Err(wrong(alloc)),
+        _ => Err(ReadFault::wrong_form(alloc)),
     }
 }
 
@@ -213,34 +206,32 @@ fn literal_keys() -> &'static [Key]
     ]
 }
 
-#[tactic(auto, unfolding(crate::specs::forms::Attrs::literal))]
+#[tactic(auto, unfolding(crate::specs::forms::Attrs::literal, crate::specs::inside::Left::are_apart, crate::specs::Keys::key_text))]
 impl FromForm for Lit {
     ghost use Rattle.bridge_read.specs.forms.Attrs.{literal};
 
     ghost form = { literal.read };
 
-    fn from_form(alloc: Global, value: &Value) -> Result<Lit, ReadFault> {
+    fn from_form(alloc: Global, value: Value) -> Result<Lit, ReadFault> {
         if let Some(_) = value.as_str() {
-            return literal_word(alloc, value);
+            return literal_word(alloc, &value);
         }
-        let keys = literal_keys();
-        only(alloc, value, keys)?;
-        let (key, found) = sole(alloc, value, keys)?;
+        let (key, found) = Fields::of(alloc, value, literal_keys())?.sole(alloc)?;
         in_member(alloc, key, literal_under(alloc, key, found))
     }
 }
 
-#[tactic(auto, unfolding(crate::specs::forms::Attrs::assign))]
+#[tactic(auto, unfolding(crate::specs::forms::Attrs::assign, crate::specs::inside::Left::are_apart, crate::specs::Keys::key_text))]
 impl FromForm for Assign {
     ghost use Rattle.bridge_read.specs.forms.Attrs.{assign};
 
     ghost form = { assign.read };
 
-    fn from_form(alloc: Global, value: &Value) -> Result<Assign, ReadFault> {
-        only(alloc, value, &[Key::Name, Key::Value])?;
+    fn from_form(alloc: Global, value: Value) -> Result<Assign, ReadFault> {
+        let mut left = Fields::of(alloc, value, &[Key::Name, Key::Value])?;
         Ok(Assign {
-            name: needed(alloc, value, Key::Name)?,
-            value: needed(alloc, value, Key::Value)?,
+            name: left.needed(alloc)?,
+            value: left.needed(alloc)?,
         })
     }
 }
@@ -257,28 +248,28 @@ fn argument_of(value: Option<Lit>, list: Option<Items<Assign>>) -> Option<MetaVa
     }
 }
 
-#[tactic(auto, unfolding(crate::specs::forms::Attrs::mark))]
+#[tactic(auto, unfolding(crate::specs::forms::Attrs::mark, crate::specs::inside::Left::are_apart, crate::specs::Keys::key_text))]
 impl FromForm for DiplomatBackendAttr {
     ghost use Rattle.bridge_read.specs.forms.Attrs.{mark};
 
     ghost form = { mark.read };
 
-    fn from_form(alloc: Global, value: &Value) -> Result<DiplomatBackendAttr, ReadFault> {
-        only(
+    fn from_form(alloc: Global, value: Value) -> Result<DiplomatBackendAttr, ReadFault> {
+        let mut left = Fields::of(
             alloc,
             value,
             &[Key::Condition, Key::Mark, Key::Value, Key::List],
         )?;
-        let cfg = needed(alloc, value, Key::Condition)?;
-        let path = needed_some(alloc, value, Key::Mark)?;
-        let literal = optional(alloc, value, Key::Value)?;
-        let assigns = optional(alloc, value, Key::List)?;
+        let cfg = left.needed(alloc)?;
+        let path = left.needed_some(alloc)?;
+        let literal = left.optional(alloc)?;
+        let assigns = left.optional(alloc)?;
         match argument_of(literal, assigns) {
             Some(value) => Ok(DiplomatBackendAttr {
                 cfg,
                 meta: Meta { path, value },
             }),
-            None => Err(wrong(alloc)),
+            None => Err(ReadFault::wrong_form(alloc)),
         }
     }
 }
@@ -289,32 +280,32 @@ impl FromForm for RenameAttr {
 
     ghost form = { pattern.read };
 
-    fn from_form(alloc: Global, value: &Value) -> Result<RenameAttr, ReadFault> {
-        match RenameAttr::new(alloc, text(alloc, value)?) {
+    fn from_form(alloc: Global, value: Value) -> Result<RenameAttr, ReadFault> {
+        match RenameAttr::new(alloc, text(alloc, &value)?) {
             Ok(attr) => Ok(attr),
-            Err(RenameFault::Pattern) => Err(wrong(alloc)),
+            Err(RenameFault::Pattern) => Err(ReadFault::wrong_form(alloc)),
             Err(RenameFault::NoMemory) => Err(ReadFault::NoMemory),
         }
     }
 }
 
-#[tactic(auto, unfolding(crate::specs::forms::Attrs::attrs))]
+#[tactic(auto, unfolding(crate::specs::forms::Attrs::attrs, crate::specs::inside::Left::are_apart, crate::specs::Keys::key_text))]
 impl FromForm for Attrs {
     ghost use Rattle.bridge_read.specs.forms.Attrs.{attrs};
 
     ghost form = { attrs.read };
 
-    fn from_form(alloc: Global, value: &Value) -> Result<Attrs, ReadFault> {
-        only(
+    fn from_form(alloc: Global, value: Value) -> Result<Attrs, ReadFault> {
+        let mut left = Fields::of(
             alloc,
             value,
             &[Key::Features, Key::Marks, Key::AbiRename, Key::Deprecated],
         )?;
         Ok(Attrs {
-            features: listed(alloc, value, Key::Features)?,
-            marks: listed(alloc, value, Key::Marks)?,
-            abi_rename: held(alloc, value, Key::AbiRename, RenameAttr::empty())?,
-            deprecated: optional(alloc, value, Key::Deprecated)?,
+            features: left.listed(alloc)?,
+            marks: left.listed(alloc)?,
+            abi_rename: left.held(alloc, RenameAttr::empty())?,
+            deprecated: left.optional(alloc)?,
         })
     }
 }

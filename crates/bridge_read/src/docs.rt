@@ -1,62 +1,63 @@
 //! The documentation of declarations.
 
-ghost use Rattle.std.specs.Prelude.{◌≡◌};
-ghost use Rattle.serde_json.specs.View.{view};
+ghost use Rattle.std.specs.Prelude.{◌≡◌, ◌∷◌, List};
+ghost use Rattle.serde_json.specs.Data.{Data};
+ghost use Rattle.bridge_read.specs.declared.keys.Key.{Key as Name};
 ghost use Rattle.bridge_read.specs.Form.{read_alone};
-ghost use Rattle.bridge_read.specs.Reading.{Gives};
 ghost use Rattle.bridge_read.specs.forms.Docs.{no_docs, documented};
+ghost use Rattle.bridge_read.specs.inside.Left.{IsLeft, Takes};
 
 use crate::attrs::no_attrs;
 use crate::fault::ReadFault;
+use crate::fields::Fields;
 use crate::keys::Key;
-use crate::objects::only;
-use crate::reading::{FromForm, held, listed, needed};
+use crate::reading::FromForm;
 use bridge_ast::{Attrs, DocBlock, Docs, Items, RustLink};
 use serde_json::Value;
 use std::alloc::Global;
 
-#[tactic(auto, unfolding(crate::specs::forms::Docs::block))]
+#[tactic(auto, unfolding(crate::specs::forms::Docs::block, crate::specs::inside::Left::are_apart, crate::specs::Keys::key_text))]
 impl FromForm for DocBlock {
     ghost use Rattle.bridge_read.specs.forms.Docs.{block};
 
     ghost form = { block.read };
 
-    fn from_form(alloc: Global, value: &Value) -> Result<DocBlock, ReadFault> {
-        only(alloc, value, &[Key::Condition, Key::Lines])?;
+    fn from_form(alloc: Global, value: Value) -> Result<DocBlock, ReadFault> {
+        let mut left = Fields::of(alloc, value, &[Key::Condition, Key::Lines])?;
         Ok(DocBlock {
-            cfg: needed(alloc, value, Key::Condition)?,
-            lines: needed(alloc, value, Key::Lines)?,
+            cfg: left.needed(alloc)?,
+            lines: left.needed(alloc)?,
         })
     }
 }
 
-#[tactic(auto, unfolding(crate::specs::forms::Docs::link))]
+#[tactic(auto, unfolding(crate::specs::forms::Docs::link, crate::specs::inside::Left::are_apart, crate::specs::Keys::key_text))]
 impl FromForm for RustLink {
     ghost use Rattle.bridge_read.specs.forms.Docs.{link};
 
     ghost form = { link.read };
 
-    fn from_form(alloc: Global, value: &Value) -> Result<RustLink, ReadFault> {
-        only(alloc, value, &[Key::Path, Key::Kind, Key::Display])?;
+    fn from_form(alloc: Global, value: Value) -> Result<RustLink, ReadFault> {
+        let mut left = Fields::of(alloc, value, &[Key::Path, Key::Kind, Key::Display])?;
         Ok(RustLink {
-            path: needed(alloc, value, Key::Path)?,
-            typ: needed(alloc, value, Key::Kind)?,
-            display: needed(alloc, value, Key::Display)?,
+            path: left.needed(alloc)?,
+            typ: left.needed(alloc)?,
+            display: left.needed(alloc)?,
         })
     }
 }
 
-#[tactic(auto, unfolding(crate::specs::forms::Docs::docs))]
+#[tactic(auto, unfolding(crate::specs::forms::Docs::docs, crate::specs::inside::Left::are_apart, crate::specs::Keys::key_text))]
 impl FromForm for Docs {
     ghost use Rattle.bridge_read.specs.forms.Docs.{docs};
 
     ghost form = { docs.read };
 
-    fn from_form(alloc: Global, value: &Value) -> Result<Docs, ReadFault> {
-        only(alloc, value, &[Key::Blocks, Key::Links])?;
+    fn from_form(alloc: Global, value: Value) -> Result<Docs, ReadFault> {
+        let mut left = Fields::of(alloc, value, &[Key::Blocks, Key::Links])?;
         Ok(Docs {
-            blocks: listed(alloc, value, Key::Blocks)?,
-            links: listed(alloc, value, Key::Links)?,
+            blocks: left.listed(alloc)?,
+            links: left.listed(alloc)?,
         })
     }
 }
@@ -73,10 +74,11 @@ pub fn no_docs(alloc: Global) -> Docs
 
 /// The documentation and the attributes of a declaration.
 #[tactic(auto, unfolding(crate::specs::forms::Docs::documented))]
-pub fn documented(alloc: Global, value: &Value) -> Result<(Docs, Attrs), ReadFault>
-    ensures { Gives result (read_alone documented (view value.now)) }
+pub fn documented(alloc: Global, left: &mut Fields) -> Result<(Docs, Attrs), ReadFault>
+    ensures { (keys : List Name) (d : Data) → IsLeft left.old (Key.Docs ∷ Key.Attrs ∷ keys) d
+        → Takes result (read_alone documented d) left.new keys d }
 {
-    let docs = held(alloc, value, Key::Docs, no_docs(alloc))?;
-    let attrs = held(alloc, value, Key::Attrs, no_attrs(alloc))?;
+    let docs = left.held(alloc, no_docs(alloc))?;
+    let attrs = left.held(alloc, no_attrs(alloc))?;
     Ok((docs, attrs))
 }

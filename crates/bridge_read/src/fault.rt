@@ -111,6 +111,24 @@ pub enum ReadFault {
     NoMemory,
 }
 
+impl ReadFault {
+    ghost use Rattle.bridge_read.specs.Reading.{here};
+
+    /// The value hasn't the form that it has to have.
+    pub fn wrong_form(alloc: Global) -> ReadFault
+        ensures { result ≡ ReadFault.Bad (here InputKind.WrongForm) }
+    {
+        ReadFault::Bad(Fault::here(alloc, InputKind::WrongForm))
+    }
+
+    /// Nothing stands under a key that is required.
+    pub fn missing_key(alloc: Global) -> ReadFault
+        ensures { result ≡ ReadFault.Bad (here InputKind.MissingKey) }
+    {
+        ReadFault::Bad(Fault::here(alloc, InputKind::MissingKey))
+    }
+}
+
 impl From<AllocError> for ReadFault {
     ghost from_gives = { λ _ fault. fault ≡ no_memory };
 

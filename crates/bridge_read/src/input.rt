@@ -20,12 +20,12 @@ ghost use Rattle.bridge_read.specs.forms.Inputs.{no_backend, whole};
 ghost use Rattle.bridge_read.specs.inside.Answers.{GivesEnv, GivesForm, IsNoJson};
 
 use crate::fault::{InputKind, ReadFault};
+use crate::fields::Fields;
 use crate::keys::Key;
 use crate::modules::ModuleList;
-use crate::objects::only;
 use crate::places::place_pointer;
 use crate::pointer::Pointer;
-use crate::reading::{FromForm, held, needed};
+use crate::reading::FromForm;
 use bridge_ast::{Env, EnvFault, EnvFaultKind, EnvPlace, NoMemory, Text};
 use hir_attrs::BasicAttributeValidator;
 use hir_docs::DocsUrlGenerator;
@@ -88,23 +88,23 @@ fn no_backend(alloc: Global) -> Result<BasicAttributeValidator, NoMemory>
     BasicAttributeValidator::new(alloc, "")
 }
 
-#[tactic(auto, unfolding(crate::specs::forms::Inputs::whole))]
+#[tactic(auto, unfolding(crate::specs::forms::Inputs::whole, crate::specs::inside::Left::are_apart, crate::specs::Keys::key_text))]
 impl FromForm for Declared {
     ghost use Rattle.bridge_read.specs.forms.Inputs.{whole};
 
     ghost form = { whole.read };
 
-    fn from_form(alloc: Global, value: &Value) -> Result<Declared, ReadFault> {
-        only(
+    fn from_form(alloc: Global, value: Value) -> Result<Declared, ReadFault> {
+        let mut left = Fields::of(
             alloc,
             value,
             &[Key::Root, Key::Backend, Key::Config, Key::Docs],
         )?;
         Ok(Declared {
-            modules: needed(alloc, value, Key::Root)?,
-            validator: held(alloc, value, Key::Backend, no_backend(alloc)?)?,
-            config: held(alloc, value, Key::Config, LoweringConfig::default())?,
-            urls: held(alloc, value, Key::Docs, DocsUrlGenerator::new(alloc))?,
+            modules: left.needed(alloc)?,
+            validator: left.held(alloc, no_backend(alloc)?)?,
+            config: left.held(alloc, LoweringConfig::default())?,
+            urls: left.held(alloc, DocsUrlGenerator::new(alloc))?,
         })
     }
 }
@@ -132,8 +132,8 @@ fn json_value(alloc: Global, bytes: &[u8]) -> Result<Value, InputFault>
 }
 
 /// What the value declares.
-fn declared_in(alloc: Global, value: &Value) -> Result<Declared, InputFault>
-    ensures { GivesForm result (view value.now) }
+fn declared_in(alloc: Global, value: Value) -> Result<Declared, InputFault>
+    ensures { GivesForm result (view value) }
 {
     match Declared::from_form(alloc, value) {
         Ok(declared) => Ok(declared),
@@ -156,23 +156,28 @@ fn kind_of(kind: EnvFaultKind) -> InputKind
     }
 }
 
-/// A fault between the declarations of a value.
-fn fault_between(alloc: Global, value: &Value, kind: EnvFaultKind, at: EnvPlace) -> InputFault
-    ensures { IsToldAs result (declared_fault (view value.now) kind at) }
+/// A fault between the declarations that the bytes spell. Their value is read once more, since it was taken apart.
+#[tactic(auto, using(crate::proofs::InputLaws::same_value, crate::proofs::InputLaws::none_told))]
+fn fault_between(alloc: Global, bytes: &[u8], kind: EnvFaultKind, at: EnvPlace) -> InputFault
+    ensures { (d : Data) → IsJsonOf bytes.now d → IsToldAs result (declared_fault d kind at) }
 {
-    match place_pointer(alloc, value, at) {
+    let value = match json_value(alloc, bytes) {
+        Ok(value) => value,
+        Err(fault) => return fault,
+    };
+    match place_pointer(alloc, &value, at) {
         Ok(pointer) => fault_at(alloc, kind_of(kind), pointer),
         Err(AllocError) => InputFault::NoMemory,
     }
 }
 
-/// The environment of the modules that a value declares.
-fn env_of(alloc: Global, value: &Value, modules: ModuleList) -> Result<Env, InputFault>
-    ensures { GivesEnv result (view value.now) modules }
+/// The environment of the modules that the bytes declare.
+fn env_of(alloc: Global, bytes: &[u8], modules: ModuleList) -> Result<Env, InputFault>
+    ensures { (d : Data) → IsJsonOf bytes.now d → GivesEnv result d modules }
 {
     match Env::new(alloc, modules.into_vec()) {
         Ok(env) => Ok(env),
-        Err(EnvFault::Bad { kind, at, .. }) => Err(fault_between(alloc, value, kind, at)),
+        Err(EnvFault::Bad { kind, at, .. }) => Err(fault_between(alloc, bytes, kind, at)),
         Err(EnvFault::NoMemory) => Err(InputFault::NoMemory),
     }
 }
@@ -214,8 +219,8 @@ pub fn read_input(alloc: Global, bytes: &[u8]) -> Result<Input, InputFault>
         → one ≡ other }
 {
     let value = json_value(alloc, bytes)?;
-    let declared = declared_in(alloc, &value)?;
-    let env = env_of(alloc, &value, declared.modules)?;
+    let declared = declared_in(alloc, value)?;
+    let env = env_of(alloc, bytes, declared.modules)?;
     Ok(Input {
         env,
         validator: declared.validator,

@@ -2,33 +2,35 @@
 
 ghost use Rattle.std.specs.Prelude.{◌≡◌};
 ghost use Rattle.serde_json.specs.View.{view};
-ghost use Rattle.bridge_read.specs.Form.{object_with};
-ghost use Rattle.bridge_read.specs.Reading.{Gives};
+ghost use Rattle.bridge_read.specs.Form.{object_with, one_word};
+ghost use Rattle.bridge_read.specs.Reading.{Gives, needed};
+ghost use Rattle.bridge_read.specs.Words.{item_kind_words};
 ghost use Rattle.bridge_read.specs.forms.Items.{struct_parts, opaque_parts, enum_parts, trait_parts, function_parts};
 
 use crate::docs::documented;
 use crate::fault::ReadFault;
+use crate::fields::Fields;
 use crate::keys::Key;
 use crate::lifetimes::mutability;
 use crate::methods::{or_name, signed};
-use crate::objects::{object, only};
-use crate::reading::{FromForm, flag_under, listed, needed, optional};
-use crate::words::ItemKind;
+use crate::objects::{in_member, object, under};
+use crate::reading::FromForm;
+use crate::words::{ItemKind, one_word};
 use bridge_ast::{Enum, Field, Function, Item, LifetimeEnv, OpaqueType, Struct, Trait, Variant};
 use serde_json::Value;
 use std::alloc::Global;
 
-#[tactic(auto, unfolding(crate::specs::forms::Items::field, crate::specs::forms::Docs::documented))]
+#[tactic(auto, unfolding(crate::specs::forms::Items::field, crate::specs::forms::Docs::documented, crate::specs::inside::Left::are_apart, crate::specs::Keys::key_text))]
 impl FromForm for Field {
     ghost use Rattle.bridge_read.specs.forms.Items.{field};
 
     ghost form = { field.read };
 
-    fn from_form(alloc: Global, value: &Value) -> Result<Field, ReadFault> {
-        only(alloc, value, &[Key::Name, Key::Ty, Key::Docs, Key::Attrs])?;
-        let name = needed(alloc, value, Key::Name)?;
-        let ty = needed(alloc, value, Key::Ty)?;
-        let (docs, attrs) = documented(alloc, value)?;
+    fn from_form(alloc: Global, value: Value) -> Result<Field, ReadFault> {
+        let mut left = Fields::of(alloc, value, &[Key::Name, Key::Ty, Key::Docs, Key::Attrs])?;
+        let name = left.needed(alloc)?;
+        let ty = left.needed(alloc)?;
+        let (docs, attrs) = documented(alloc, &mut left)?;
         Ok(Field {
             name,
             ty,
@@ -38,21 +40,21 @@ impl FromForm for Field {
     }
 }
 
-#[tactic(auto, unfolding(crate::specs::forms::Items::variant, crate::specs::forms::Docs::documented))]
+#[tactic(auto, unfolding(crate::specs::forms::Items::variant, crate::specs::forms::Docs::documented, crate::specs::inside::Left::are_apart, crate::specs::Keys::key_text))]
 impl FromForm for Variant {
     ghost use Rattle.bridge_read.specs.forms.Items.{variant};
 
     ghost form = { variant.read };
 
-    fn from_form(alloc: Global, value: &Value) -> Result<Variant, ReadFault> {
-        only(
+    fn from_form(alloc: Global, value: Value) -> Result<Variant, ReadFault> {
+        let mut left = Fields::of(
             alloc,
             value,
             &[Key::Name, Key::Discriminant, Key::Docs, Key::Attrs],
         )?;
-        let name = needed(alloc, value, Key::Name)?;
-        let discriminant = needed(alloc, value, Key::Discriminant)?;
-        let (docs, attrs) = documented(alloc, value)?;
+        let name = left.needed(alloc)?;
+        let discriminant = left.needed(alloc)?;
+        let (docs, attrs) = documented(alloc, &mut left)?;
         Ok(Variant {
             name,
             discriminant,
@@ -63,11 +65,11 @@ impl FromForm for Variant {
 }
 
 /// A struct, or an out-struct.
-#[tactic(auto, unfolding(crate::specs::forms::Docs::documented))]
-fn struct_item(alloc: Global, value: &Value, output_only: bool) -> Result<Item, ReadFault>
-    ensures { Gives result ((object_with (struct_parts output_only)).read (view value.now)) }
+#[tactic(auto, unfolding(crate::specs::forms::Docs::documented, crate::specs::inside::Left::are_apart, crate::specs::Keys::key_text))]
+fn struct_item(alloc: Global, value: Value, output_only: bool) -> Result<Item, ReadFault>
+    ensures { Gives result ((object_with (struct_parts output_only)).read (view value)) }
 {
-    only(
+    let mut left = Fields::of(
         alloc,
         value,
         &[
@@ -80,11 +82,12 @@ fn struct_item(alloc: Global, value: &Value, output_only: bool) -> Result<Item, 
             Key::Attrs,
         ],
     )?;
-    let name = needed(alloc, value, Key::Name)?;
-    let nodes = listed(alloc, value, Key::Lifetimes)?;
-    let fields = listed(alloc, value, Key::Fields)?;
-    let methods = listed(alloc, value, Key::Methods)?;
-    let (docs, attrs) = documented(alloc, value)?;
+    left.next();
+    let name = left.needed(alloc)?;
+    let nodes = left.listed(alloc)?;
+    let fields = left.listed(alloc)?;
+    let methods = left.listed(alloc)?;
+    let (docs, attrs) = documented(alloc, &mut left)?;
     Ok(Item::Struct(Struct {
         name,
         lifetimes: LifetimeEnv { nodes },
@@ -97,11 +100,11 @@ fn struct_item(alloc: Global, value: &Value, output_only: bool) -> Result<Item, 
 }
 
 /// An opaque.
-#[tactic(auto, unfolding(crate::specs::forms::Items::opaque_parts, crate::specs::forms::Docs::documented))]
-fn opaque(alloc: Global, value: &Value) -> Result<Item, ReadFault>
-    ensures { Gives result ((object_with opaque_parts).read (view value.now)) }
+#[tactic(auto, unfolding(crate::specs::forms::Items::opaque_parts, crate::specs::forms::Docs::documented, crate::specs::inside::Left::are_apart, crate::specs::Keys::key_text))]
+fn opaque(alloc: Global, value: Value) -> Result<Item, ReadFault>
+    ensures { Gives result ((object_with opaque_parts).read (view value)) }
 {
-    only(
+    let mut left = Fields::of(
         alloc,
         value,
         &[
@@ -115,12 +118,13 @@ fn opaque(alloc: Global, value: &Value) -> Result<Item, ReadFault>
             Key::Attrs,
         ],
     )?;
-    let name = needed(alloc, value, Key::Name)?;
-    let nodes = listed(alloc, value, Key::Lifetimes)?;
-    let mutable = flag_under(alloc, value, Key::Mutable)?;
-    let methods = listed(alloc, value, Key::Methods)?;
-    let dtor = optional(alloc, value, Key::DtorAbiName)?;
-    let (docs, attrs) = documented(alloc, value)?;
+    left.next();
+    let name = left.needed(alloc)?;
+    let nodes = left.listed(alloc)?;
+    let mutable = left.flag(alloc)?;
+    let methods = left.listed(alloc)?;
+    let dtor = left.optional(alloc)?;
+    let (docs, attrs) = documented(alloc, &mut left)?;
     Ok(Item::Opaque(OpaqueType {
         dtor_abi_name: or_name(alloc, &name, dtor)?,
         name,
@@ -133,11 +137,11 @@ fn opaque(alloc: Global, value: &Value) -> Result<Item, ReadFault>
 }
 
 /// An enum.
-#[tactic(auto, unfolding(crate::specs::forms::Items::enum_parts, crate::specs::forms::Docs::documented))]
-fn enum_item(alloc: Global, value: &Value) -> Result<Item, ReadFault>
-    ensures { Gives result ((object_with enum_parts).read (view value.now)) }
+#[tactic(auto, unfolding(crate::specs::forms::Items::enum_parts, crate::specs::forms::Docs::documented, crate::specs::inside::Left::are_apart, crate::specs::Keys::key_text))]
+fn enum_item(alloc: Global, value: Value) -> Result<Item, ReadFault>
+    ensures { Gives result ((object_with enum_parts).read (view value)) }
 {
-    only(
+    let mut left = Fields::of(
         alloc,
         value,
         &[
@@ -149,10 +153,11 @@ fn enum_item(alloc: Global, value: &Value) -> Result<Item, ReadFault>
             Key::Attrs,
         ],
     )?;
-    let name = needed(alloc, value, Key::Name)?;
-    let variants = listed(alloc, value, Key::Variants)?;
-    let methods = listed(alloc, value, Key::Methods)?;
-    let (docs, attrs) = documented(alloc, value)?;
+    left.next();
+    let name = left.needed(alloc)?;
+    let variants = left.listed(alloc)?;
+    let methods = left.listed(alloc)?;
+    let (docs, attrs) = documented(alloc, &mut left)?;
     Ok(Item::Enum(Enum {
         name,
         variants,
@@ -163,11 +168,11 @@ fn enum_item(alloc: Global, value: &Value) -> Result<Item, ReadFault>
 }
 
 /// A trait.
-#[tactic(auto, unfolding(crate::specs::forms::Items::trait_parts, crate::specs::forms::Docs::documented))]
-fn trait_item(alloc: Global, value: &Value) -> Result<Item, ReadFault>
-    ensures { Gives result ((object_with trait_parts).read (view value.now)) }
+#[tactic(auto, unfolding(crate::specs::forms::Items::trait_parts, crate::specs::forms::Docs::documented, crate::specs::inside::Left::are_apart, crate::specs::Keys::key_text))]
+fn trait_item(alloc: Global, value: Value) -> Result<Item, ReadFault>
+    ensures { Gives result ((object_with trait_parts).read (view value)) }
 {
-    only(
+    let mut left = Fields::of(
         alloc,
         value,
         &[
@@ -181,12 +186,13 @@ fn trait_item(alloc: Global, value: &Value) -> Result<Item, ReadFault>
             Key::Attrs,
         ],
     )?;
-    let name = needed(alloc, value, Key::Name)?;
-    let nodes = listed(alloc, value, Key::Lifetimes)?;
-    let methods = listed(alloc, value, Key::Methods)?;
-    let is_send = flag_under(alloc, value, Key::IsSend)?;
-    let is_sync = flag_under(alloc, value, Key::IsSync)?;
-    let (docs, attrs) = documented(alloc, value)?;
+    left.next();
+    let name = left.needed(alloc)?;
+    let nodes = left.listed(alloc)?;
+    let methods = left.listed(alloc)?;
+    let is_send = left.flag(alloc)?;
+    let is_sync = left.flag(alloc)?;
+    let (docs, attrs) = documented(alloc, &mut left)?;
     Ok(Item::Trait(Trait {
         name,
         lifetimes: LifetimeEnv { nodes },
@@ -199,11 +205,11 @@ fn trait_item(alloc: Global, value: &Value) -> Result<Item, ReadFault>
 }
 
 /// A function.
-#[tactic(auto, unfolding(crate::specs::forms::Items::function_parts, crate::specs::forms::Methods::signature, crate::specs::forms::Docs::documented))]
-fn function(alloc: Global, value: &Value) -> Result<Item, ReadFault>
-    ensures { Gives result ((object_with function_parts).read (view value.now)) }
+#[tactic(auto, unfolding(crate::specs::forms::Items::function_parts, crate::specs::forms::Methods::signature, crate::specs::forms::Docs::documented, crate::specs::inside::Left::are_apart, crate::specs::Keys::key_text))]
+fn function(alloc: Global, value: Value) -> Result<Item, ReadFault>
+    ensures { Gives result ((object_with function_parts).read (view value)) }
 {
-    only(
+    let mut left = Fields::of(
         alloc,
         value,
         &[
@@ -217,10 +223,11 @@ fn function(alloc: Global, value: &Value) -> Result<Item, ReadFault>
             Key::Attrs,
         ],
     )?;
-    let name = needed(alloc, value, Key::Name)?;
-    let abi_name = optional(alloc, value, Key::AbiName)?;
-    let signature = signed(alloc, value)?;
-    let (docs, attrs) = documented(alloc, value)?;
+    left.next();
+    let name = left.needed(alloc)?;
+    let abi_name = left.optional(alloc)?;
+    let signature = signed(alloc, &mut left)?;
+    let (docs, attrs) = documented(alloc, &mut left)?;
     Ok(Item::Function(Function {
         abi_name: or_name(alloc, &name, abi_name)?,
         name,
@@ -234,15 +241,26 @@ fn function(alloc: Global, value: &Value) -> Result<Item, ReadFault>
     }))
 }
 
+/// The kind of an item.
+fn kind_of(alloc: Global, value: &Value) -> Result<ItemKind, ReadFault>
+    ensures { Gives result
+        (needed (one_word item_kind_words).read Key.Kind (view value.now)) }
+{
+    match under(value, Key::Kind) {
+        Some(kind) => in_member(alloc, Key::Kind, one_word(alloc, kind)),
+        None => Err(ReadFault::missing_key(alloc)),
+    }
+}
+
 #[tactic(auto, unfolding(crate::specs::forms::Items::item_form))]
 impl FromForm for Item {
     ghost use Rattle.bridge_read.specs.forms.Items.{item_form};
 
     ghost form = { item_form.read };
 
-    fn from_form(alloc: Global, value: &Value) -> Result<Item, ReadFault> {
-        object(alloc, value)?;
-        match needed(alloc, value, Key::Kind)? {
+    fn from_form(alloc: Global, value: Value) -> Result<Item, ReadFault> {
+        object(alloc, &value)?;
+        match kind_of(alloc, &value)? {
             ItemKind::Struct => struct_item(alloc, value, false),
             ItemKind::OutStruct => struct_item(alloc, value, true),
             ItemKind::Opaque => opaque(alloc, value),

@@ -1,43 +1,41 @@
 //! Lifetimes.
 
-ghost use Rattle.std.specs.Prelude.{◌≡◌, IfOk};
+ghost use Rattle.std.specs.Prelude.{◌≡◌};
 ghost use Rattle.bridge_read.specs.forms.Lifetimes.{lifetime_called, mutability};
 
 use crate::fault::ReadFault;
+use crate::fields::Fields;
 use crate::keys::Key;
-use crate::objects::only;
-use crate::reading::{FromForm, flag_under, listed, needed, needed_some, text};
-use bridge_ast::{Lifetime, LifetimeNode, Mutability, NoMemory, PathType, Text};
+use crate::reading::FromForm;
+use bridge_ast::{Lifetime, LifetimeNode, Mutability, PathType, Text};
 use serde_json::Value;
 use std::alloc::Global;
 
-#[tactic(auto, unfolding(crate::specs::forms::Lifetimes::node))]
+#[tactic(auto, unfolding(crate::specs::forms::Lifetimes::node, crate::specs::inside::Left::are_apart, crate::specs::Keys::key_text))]
 impl FromForm for LifetimeNode {
     ghost use Rattle.bridge_read.specs.forms.Lifetimes.{node};
 
     ghost form = { node.read };
 
-    fn from_form(alloc: Global, value: &Value) -> Result<LifetimeNode, ReadFault> {
-        only(alloc, value, &[Key::Name, Key::Longer, Key::Shorter])?;
+    fn from_form(alloc: Global, value: Value) -> Result<LifetimeNode, ReadFault> {
+        let mut left = Fields::of(alloc, value, &[Key::Name, Key::Longer, Key::Shorter])?;
         Ok(LifetimeNode {
-            name: needed(alloc, value, Key::Name)?,
-            longer: listed(alloc, value, Key::Longer)?,
-            shorter: listed(alloc, value, Key::Shorter)?,
+            name: left.needed(alloc)?,
+            longer: left.listed(alloc)?,
+            shorter: left.listed(alloc)?,
         })
     }
 }
 
 /// A lifetime by its text: `static`, `_` for an anonymous one, or a name.
 #[tactic(auto, unfolding(crate::specs::forms::Lifetimes::lifetime_called))]
-fn lifetime_called(alloc: Global, name: &str) -> Result<Lifetime, NoMemory>
-    ensures { IfOk result (λ lifetime. lifetime ≡ lifetime_called name.now) }
+fn lifetime_called(name: Text) -> Lifetime
+    ensures { result ≡ lifetime_called name }
 {
-    if name == "static" {
-        Ok(Lifetime::Static)
-    } else if name == "_" {
-        Ok(Lifetime::Anonymous)
-    } else {
-        Ok(Lifetime::Named(Text::new(alloc, name)?))
+    match name.as_str() {
+        "static" => Lifetime::Static,
+        "_" => Lifetime::Anonymous,
+        _ => Lifetime::Named(name),
     }
 }
 
@@ -47,8 +45,8 @@ impl FromForm for Lifetime {
 
     ghost form = { lifetime.read };
 
-    fn from_form(alloc: Global, value: &Value) -> Result<Lifetime, ReadFault> {
-        Ok(lifetime_called(alloc, text(alloc, value)?)?)
+    fn from_form(alloc: Global, value: Value) -> Result<Lifetime, ReadFault> {
+        Ok(lifetime_called(Text::from_form(alloc, value)?))
     }
 }
 
@@ -63,31 +61,31 @@ pub fn mutability(mutable: bool) -> Mutability
     }
 }
 
-#[tactic(auto, unfolding(crate::specs::forms::Lifetimes::reference))]
+#[tactic(auto, unfolding(crate::specs::forms::Lifetimes::reference, crate::specs::inside::Left::are_apart, crate::specs::Keys::key_text))]
 impl FromForm for (Lifetime, Mutability) {
     ghost use Rattle.bridge_read.specs.forms.Lifetimes.{reference};
 
     ghost form = { reference.read };
 
-    fn from_form(alloc: Global, value: &Value) -> Result<(Lifetime, Mutability), ReadFault> {
-        only(alloc, value, &[Key::Lifetime, Key::Mutable])?;
-        let lifetime = needed(alloc, value, Key::Lifetime)?;
-        let mutable = flag_under(alloc, value, Key::Mutable)?;
+    fn from_form(alloc: Global, value: Value) -> Result<(Lifetime, Mutability), ReadFault> {
+        let mut left = Fields::of(alloc, value, &[Key::Lifetime, Key::Mutable])?;
+        let lifetime = left.needed(alloc)?;
+        let mutable = left.flag(alloc)?;
         Ok((lifetime, mutability(mutable)))
     }
 }
 
-#[tactic(auto, unfolding(crate::specs::forms::Lifetimes::path))]
+#[tactic(auto, unfolding(crate::specs::forms::Lifetimes::path, crate::specs::inside::Left::are_apart, crate::specs::Keys::key_text))]
 impl FromForm for PathType {
     ghost use Rattle.bridge_read.specs.forms.Lifetimes.{path};
 
     ghost form = { path.read };
 
-    fn from_form(alloc: Global, value: &Value) -> Result<PathType, ReadFault> {
-        only(alloc, value, &[Key::Segments, Key::Lifetimes])?;
+    fn from_form(alloc: Global, value: Value) -> Result<PathType, ReadFault> {
+        let mut left = Fields::of(alloc, value, &[Key::Segments, Key::Lifetimes])?;
         Ok(PathType {
-            segments: needed_some(alloc, value, Key::Segments)?,
-            lifetimes: listed(alloc, value, Key::Lifetimes)?,
+            segments: left.needed_some(alloc)?,
+            lifetimes: left.listed(alloc)?,
         })
     }
 }

@@ -1,17 +1,18 @@
 //! Parameters, receivers and methods.
 
-ghost use Rattle.std.specs.Prelude.{◌≡◌, IfOk};
-ghost use Rattle.serde_json.specs.View.{view};
+ghost use Rattle.std.specs.Prelude.{◌≡◌, ◌∷◌, IfOk, List};
+ghost use Rattle.serde_json.specs.Data.{Data};
+ghost use Rattle.bridge_read.specs.declared.keys.Key.{Key as Name};
 ghost use Rattle.bridge_read.specs.Form.{read_alone};
-ghost use Rattle.bridge_read.specs.Reading.{Gives};
 ghost use Rattle.bridge_read.specs.forms.Methods.{method_head, or_else, signature, trait_signature};
+ghost use Rattle.bridge_read.specs.inside.Left.{IsLeft, Takes};
 
 use crate::attrs::no_attrs;
 use crate::docs::documented;
 use crate::fault::ReadFault;
+use crate::fields::Fields;
 use crate::keys::Key;
-use crate::objects::only;
-use crate::reading::{FromForm, held, listed, needed, optional};
+use crate::reading::FromForm;
 use bridge_ast::{
     Items, LifetimeEnv, LifetimeNode, Method, NoMemory, Param, PathType, SelfParam, Text,
     TraitMethod, TraitSelfParam, TypeName,
@@ -29,34 +30,34 @@ pub fn or_name(alloc: Global, name: &Text, given: Option<Text>) -> Result<Text, 
     }
 }
 
-#[tactic(auto, unfolding(crate::specs::forms::Methods::param))]
+#[tactic(auto, unfolding(crate::specs::forms::Methods::param, crate::specs::inside::Left::are_apart, crate::specs::Keys::key_text))]
 impl FromForm for Param {
     ghost use Rattle.bridge_read.specs.forms.Methods.{param};
 
     ghost form = { param.read };
 
-    fn from_form(alloc: Global, value: &Value) -> Result<Param, ReadFault> {
-        only(alloc, value, &[Key::Name, Key::Ty, Key::Attrs])?;
+    fn from_form(alloc: Global, value: Value) -> Result<Param, ReadFault> {
+        let mut left = Fields::of(alloc, value, &[Key::Name, Key::Ty, Key::Attrs])?;
         Ok(Param {
-            name: needed(alloc, value, Key::Name)?,
-            ty: needed(alloc, value, Key::Ty)?,
-            attrs: held(alloc, value, Key::Attrs, no_attrs(alloc))?,
+            name: left.needed(alloc)?,
+            ty: left.needed(alloc)?,
+            attrs: left.held(alloc, no_attrs(alloc))?,
         })
     }
 }
 
-#[tactic(auto, unfolding(crate::specs::forms::Methods::receiver))]
+#[tactic(auto, unfolding(crate::specs::forms::Methods::receiver, crate::specs::inside::Left::are_apart, crate::specs::Keys::key_text))]
 impl FromForm for SelfParam {
     ghost use Rattle.bridge_read.specs.forms.Methods.{receiver};
 
     ghost form = { receiver.read };
 
-    fn from_form(alloc: Global, value: &Value) -> Result<SelfParam, ReadFault> {
-        only(alloc, value, &[Key::Reference, Key::Path, Key::Attrs])?;
+    fn from_form(alloc: Global, value: Value) -> Result<SelfParam, ReadFault> {
+        let mut left = Fields::of(alloc, value, &[Key::Reference, Key::Path, Key::Attrs])?;
         Ok(SelfParam {
-            reference: optional(alloc, value, Key::Reference)?,
-            path_type: needed(alloc, value, Key::Path)?,
-            attrs: held(alloc, value, Key::Attrs, no_attrs(alloc))?,
+            reference: left.optional(alloc)?,
+            path_type: left.needed(alloc)?,
+            attrs: left.held(alloc, no_attrs(alloc))?,
         })
     }
 }
@@ -74,13 +75,15 @@ pub struct Signature {
 
 /// The signature of a method or function.
 #[tactic(auto, unfolding(crate::specs::forms::Methods::signature))]
-pub fn signed(alloc: Global, value: &Value) -> Result<Signature, ReadFault>
-    ensures { Gives result (read_alone signature (view value.now)) }
+pub fn signed(alloc: Global, left: &mut Fields) -> Result<Signature, ReadFault>
+    ensures { (keys : List Name) (d : Data)
+        → IsLeft left.old (Key.Lifetimes ∷ Key.Params ∷ Key.Ret ∷ keys) d
+        → Takes result (read_alone signature d) left.new keys d }
 {
     Ok(Signature {
-        nodes: listed(alloc, value, Key::Lifetimes)?,
-        params: listed(alloc, value, Key::Params)?,
-        returned: optional(alloc, value, Key::Ret)?,
+        nodes: left.listed(alloc)?,
+        params: left.listed(alloc)?,
+        returned: left.optional(alloc)?,
     })
 }
 
@@ -99,13 +102,15 @@ pub struct MethodHead {
 
 /// What stands before the signature of a method.
 #[tactic(auto, unfolding(crate::specs::forms::Methods::method_head))]
-fn method_head(alloc: Global, value: &Value) -> Result<MethodHead, ReadFault>
-    ensures { Gives result (read_alone method_head (view value.now)) }
+fn method_head(alloc: Global, left: &mut Fields) -> Result<MethodHead, ReadFault>
+    ensures { (keys : List Name) (d : Data)
+        → IsLeft left.old (Key.Name ∷ Key.AbiName ∷ Key.SelfType ∷ Key.Itself ∷ keys) d
+        → Takes result (read_alone method_head d) left.new keys d }
 {
-    let name = needed(alloc, value, Key::Name)?;
-    let abi_name = optional(alloc, value, Key::AbiName)?;
-    let self_type = needed(alloc, value, Key::SelfType)?;
-    let self_param = optional(alloc, value, Key::Itself)?;
+    let name = left.needed(alloc)?;
+    let abi_name = left.optional(alloc)?;
+    let self_type = left.needed(alloc)?;
+    let self_param = left.optional(alloc)?;
     Ok(MethodHead {
         abi_name: or_name(alloc, &name, abi_name)?,
         name,
@@ -114,14 +119,14 @@ fn method_head(alloc: Global, value: &Value) -> Result<MethodHead, ReadFault>
     })
 }
 
-#[tactic(auto, unfolding(crate::specs::forms::Methods::method, crate::specs::forms::Methods::method_head, crate::specs::forms::Methods::signature, crate::specs::forms::Docs::documented))]
+#[tactic(auto, unfolding(crate::specs::forms::Methods::method, crate::specs::forms::Methods::method_head, crate::specs::forms::Methods::signature, crate::specs::forms::Docs::documented, crate::specs::inside::Left::are_apart, crate::specs::Keys::key_text))]
 impl FromForm for Method {
     ghost use Rattle.bridge_read.specs.forms.Methods.{method};
 
     ghost form = { method.read };
 
-    fn from_form(alloc: Global, value: &Value) -> Result<Method, ReadFault> {
-        only(
+    fn from_form(alloc: Global, value: Value) -> Result<Method, ReadFault> {
+        let mut left = Fields::of(
             alloc,
             value,
             &[
@@ -136,9 +141,9 @@ impl FromForm for Method {
                 Key::Attrs,
             ],
         )?;
-        let head = method_head(alloc, value)?;
-        let signature = signed(alloc, value)?;
-        let (docs, attrs) = documented(alloc, value)?;
+        let head = method_head(alloc, &mut left)?;
+        let signature = signed(alloc, &mut left)?;
+        let (docs, attrs) = documented(alloc, &mut left)?;
         Ok(Method {
             name: head.name,
             abi_name: head.abi_name,
@@ -155,17 +160,17 @@ impl FromForm for Method {
     }
 }
 
-#[tactic(auto, unfolding(crate::specs::forms::Methods::trait_receiver))]
+#[tactic(auto, unfolding(crate::specs::forms::Methods::trait_receiver, crate::specs::inside::Left::are_apart, crate::specs::Keys::key_text))]
 impl FromForm for TraitSelfParam {
     ghost use Rattle.bridge_read.specs.forms.Methods.{trait_receiver};
 
     ghost form = { trait_receiver.read };
 
-    fn from_form(alloc: Global, value: &Value) -> Result<TraitSelfParam, ReadFault> {
-        only(alloc, value, &[Key::Reference, Key::Path])?;
+    fn from_form(alloc: Global, value: Value) -> Result<TraitSelfParam, ReadFault> {
+        let mut left = Fields::of(alloc, value, &[Key::Reference, Key::Path])?;
         Ok(TraitSelfParam {
-            reference: optional(alloc, value, Key::Reference)?,
-            path_trait: needed(alloc, value, Key::Path)?,
+            reference: left.optional(alloc)?,
+            path_trait: left.needed(alloc)?,
         })
     }
 }
@@ -185,25 +190,27 @@ pub struct TraitSignature {
 
 /// What stands between the name of a trait's method and its documentation.
 #[tactic(auto, unfolding(crate::specs::forms::Methods::trait_signature))]
-fn trait_signed(alloc: Global, value: &Value) -> Result<TraitSignature, ReadFault>
-    ensures { Gives result (read_alone trait_signature (view value.now)) }
+fn trait_signed(alloc: Global, left: &mut Fields) -> Result<TraitSignature, ReadFault>
+    ensures { (keys : List Name) (d : Data)
+        → IsLeft left.old (Key.Lifetimes ∷ Key.Itself ∷ Key.Params ∷ Key.Ret ∷ keys) d
+        → Takes result (read_alone trait_signature d) left.new keys d }
 {
     Ok(TraitSignature {
-        nodes: listed(alloc, value, Key::Lifetimes)?,
-        self_param: optional(alloc, value, Key::Itself)?,
-        params: listed(alloc, value, Key::Params)?,
-        returned: optional(alloc, value, Key::Ret)?,
+        nodes: left.listed(alloc)?,
+        self_param: left.optional(alloc)?,
+        params: left.listed(alloc)?,
+        returned: left.optional(alloc)?,
     })
 }
 
-#[tactic(auto, unfolding(crate::specs::forms::Methods::trait_method, crate::specs::forms::Methods::trait_signature, crate::specs::forms::Docs::documented))]
+#[tactic(auto, unfolding(crate::specs::forms::Methods::trait_method, crate::specs::forms::Methods::trait_signature, crate::specs::forms::Docs::documented, crate::specs::inside::Left::are_apart, crate::specs::Keys::key_text))]
 impl FromForm for TraitMethod {
     ghost use Rattle.bridge_read.specs.forms.Methods.{trait_method};
 
     ghost form = { trait_method.read };
 
-    fn from_form(alloc: Global, value: &Value) -> Result<TraitMethod, ReadFault> {
-        only(
+    fn from_form(alloc: Global, value: Value) -> Result<TraitMethod, ReadFault> {
+        let mut left = Fields::of(
             alloc,
             value,
             &[
@@ -216,9 +223,9 @@ impl FromForm for TraitMethod {
                 Key::Attrs,
             ],
         )?;
-        let name = needed(alloc, value, Key::Name)?;
-        let signature = trait_signed(alloc, value)?;
-        let (docs, attrs) = documented(alloc, value)?;
+        let name = left.needed(alloc)?;
+        let signature = trait_signed(alloc, &mut left)?;
+        let (docs, attrs) = documented(alloc, &mut left)?;
         Ok(TraitMethod {
             name,
             lifetimes: LifetimeEnv {

@@ -1,32 +1,37 @@
 //! Modules, which nest, as one list.
 
-ghost use Rattle.std.specs.Prelude.{◌≡◌, ◌+◌, [], ◌∷◌, ◌++◌, length, IfOk, OnOk};
+ghost use Rattle.std.specs.Prelude.{◌≡◌, ◌+◌, [], ◌∷◌, ◌++◌, length, IfOk, List, OnOk};
+ghost use Rattle.serde_json.specs.Data.{Data};
 ghost use Rattle.serde_json.specs.View.{view};
+ghost use Rattle.bridge_read.specs.declared.keys.Key.{Key as Name};
 ghost use Rattle.bridge_read.specs.Form.{object_with, read_alone};
 ghost use Rattle.bridge_read.specs.Reading.{Gives, held};
-ghost use Rattle.bridge_read.specs.forms.Modules.{contents, module_of, module_parts, module_within, name_of, nested_in, path_in, root};
+ghost use Rattle.bridge_read.specs.forms.Modules.{contents, module_of, module_parts, module_within, nested_in, root};
+ghost use Rattle.bridge_read.specs.inside.Left.{IsLeft, Takes};
+ghost use Rattle.bridge_read.specs.inside.Names.{IsNamed};
 
 use crate::attrs::no_attrs;
-use crate::fault::{Fault, InputKind, ReadFault};
+use crate::fault::ReadFault;
+use crate::fields::{Fields, Place};
 use crate::keys::Key;
-use crate::objects::{in_entry, in_member, only, under};
-use crate::reading::{FromForm, entries, held, listed, needed, text};
+use crate::objects::{in_entry, in_member};
+use crate::reading::{FromForm, entries};
 use bridge_ast::{Alias, Attrs, Item, Items, Module, NoMemory, Text};
 use serde_json::Value;
 use std::alloc::{AllocError, Global};
 use std::marker::Model;
 
-#[tactic(auto, unfolding(crate::specs::forms::Modules::alias))]
+#[tactic(auto, unfolding(crate::specs::forms::Modules::alias, crate::specs::inside::Left::are_apart, crate::specs::Keys::key_text))]
 impl FromForm for Alias {
     ghost use Rattle.bridge_read.specs.forms.Modules.{alias};
 
     ghost form = { alias.read };
 
-    fn from_form(alloc: Global, value: &Value) -> Result<Alias, ReadFault> {
-        only(alloc, value, &[Key::Name, Key::Target])?;
+    fn from_form(alloc: Global, value: Value) -> Result<Alias, ReadFault> {
+        let mut left = Fields::of(alloc, value, &[Key::Name, Key::Target])?;
         Ok(Alias {
-            name: needed(alloc, value, Key::Name)?,
-            target: needed(alloc, value, Key::Target)?,
+            name: left.needed(alloc)?,
+            target: left.needed(alloc)?,
         })
     }
 }
@@ -44,40 +49,25 @@ pub struct Contents {
 
 /// What stands in a module besides other modules.
 #[tactic(auto, unfolding(crate::specs::forms::Modules::contents))]
-fn contents_in(alloc: Global, value: &Value) -> Result<Contents, ReadFault>
-    ensures { Gives result (read_alone contents (view value.now)) }
+fn contents_in(alloc: Global, left: &mut Fields) -> Result<Contents, ReadFault>
+    ensures { (keys : List Name) (d : Data)
+        → IsLeft left.old (Key.Attrs ∷ Key.Items ∷ Key.Aliases ∷ keys) d
+        → Takes result (read_alone contents d) left.new keys d }
 {
     Ok(Contents {
-        attrs: held(alloc, value, Key::Attrs, no_attrs(alloc))?,
-        items: listed(alloc, value, Key::Items)?,
-        aliases: listed(alloc, value, Key::Aliases)?,
+        attrs: left.held(alloc, no_attrs(alloc))?,
+        items: left.listed(alloc)?,
+        aliases: left.listed(alloc)?,
     })
 }
 
-/// A text, whatever it is.
-#[tactic(auto, unfolding(crate::specs::forms::Modules::any_text))]
-impl FromForm for () {
-    ghost use Rattle.bridge_read.specs.forms.Modules.{any_text};
-
-    ghost form = { any_text.read };
-
-    fn from_form(alloc: Global, value: &Value) -> Result<(), ReadFault> {
-        text(alloc, value)?;
-        Ok(())
-    }
-}
-
-/// The name of a module, as it is written.
-fn name_of<'a>(value: &'a Value) -> &'a str
-    ensures { result.now ≡ name_of (view value.now) }
+/// The name of a module, as it is written under the next key.
+#[tactic(auto, using(crate::proofs::ModuleLemmas::named, crate::proofs::ModuleLemmas::not_named))]
+fn module_name(alloc: Global, left: &mut Fields) -> Result<Text, ReadFault>
+    ensures { (keys : List Name) (d : Data) → IsLeft left.old (Key.Name ∷ keys) d
+        → IsNamed result left.new keys d }
 {
-    match under(value, Key::Name) {
-        Some(found) => match found.as_str() {
-            Some(name) => name,
-            None => "",
-        },
-        None => "",
-    }
+    left.needed(alloc)
 }
 
 /// How many bytes the paths of all modules may take together: each keeps the names of all modules around it, so that a
@@ -101,18 +91,17 @@ fn path_in(
     alloc: Global,
     room: &mut usize,
     parent: &[Text],
-    value: &Value,
+    name: Text,
 ) -> Result<Items<Text>, NoMemory>
-    ensures { IfOk result (λ path. path ≡ path_in parent.now (view value.now)) }
+    ensures { IfOk result (λ path. path ≡ parent.now ++ name ∷ []) }
 {
     let mut path = Items::new(alloc);
     for segment in parent {
         take_room(room, segment.as_str())?;
         path.push(segment.try_clone(alloc)?)?;
     }
-    let name = name_of(value);
-    take_room(room, name)?;
-    path.push(Text::new(alloc, name)?)?;
+    take_room(room, name.as_str())?;
+    path.push(name)?;
     Ok(path)
 }
 
@@ -193,17 +182,19 @@ fn module_of(
 fn inner_modules(
     alloc: Global,
     room: &mut usize,
-    value: &Value,
+    value: Value,
     path: &[Text],
     levels: usize,
 ) -> Result<ModuleList, ReadFault>
-    ensures { Gives result ((nested_in levels path.now).read (view value.now)) }
+    ensures { Gives result ((nested_in levels path.now).read (view value)) }
 {
     let mut modules = ModuleList::new(alloc);
-    let entries = entries(alloc, value)?;
-    for (number, entry) in entries.iter().enumerate() {
+    let mut number: usize = 0;
+    for entry in entries(alloc, value)? {
         let inner = in_entry(number, module_within(alloc, room, entry, path, levels))?;
         modules.append(inner)?;
+        // No list is so long that its entries can't be counted.
+        number = number.checked_add(1).ok_or(AllocError)?;
     }
     Ok(modules)
 }
@@ -213,35 +204,37 @@ fn inner_modules(
 fn nested_modules(
     alloc: Global,
     room: &mut usize,
-    value: &Value,
+    left: &mut Fields,
     path: &[Text],
     levels: usize,
 ) -> Result<ModuleList, ReadFault>
-    ensures { Gives result (held [] (nested_in levels path.now).read Key.Modules (view value.now)) }
+    ensures { (key : Name) (keys : List Name) (d : Data) → IsLeft left.old (key ∷ keys) d
+        → Gives result (held [] (nested_in levels path.now).read key d) }
 {
-    match under(value, Key::Modules) {
-        Some(found) => in_member(
-            alloc,
-            Key::Modules,
-            inner_modules(alloc, room, found, path, levels),
-        ),
+    let Place { key, value } = left.next();
+    match value {
+        Some(value) => {
+            let modules = inner_modules(alloc, room, value, path, levels);
+            in_member(alloc, key, modules)
+        }
         None => Ok(ModuleList::new(alloc)),
     }
 }
 
 /// A module in the module of that path, with those that stand in it after it.
 #[cycle(modules)]
-#[tactic(auto, unfolding(crate::specs::forms::Modules::contents))]
+#[tactic(auto, unfolding(crate::specs::forms::Modules::contents, crate::specs::inside::Left::are_apart, crate::specs::Keys::key_text))]
 fn module_object(
     alloc: Global,
     room: &mut usize,
-    value: &Value,
+    value: Value,
     parent: &[Text],
     levels: usize,
 ) -> Result<ModuleList, ReadFault>
-    ensures { Gives result ((object_with (module_parts (nested_in levels) parent.now)).read (view value.now)) }
+    ensures { Gives result
+        ((object_with (module_parts (nested_in levels) parent.now)).read (view value)) }
 {
-    only(
+    let mut left = Fields::of(
         alloc,
         value,
         &[
@@ -252,10 +245,10 @@ fn module_object(
             Key::Modules,
         ],
     )?;
-    needed::<()>(alloc, value, Key::Name)?;
-    let contents = contents_in(alloc, value)?;
-    let path = path_in(alloc, room, parent, value)?;
-    let nested = nested_modules(alloc, room, value, path.as_slice(), levels)?;
+    let name = module_name(alloc, &mut left)?;
+    let contents = contents_in(alloc, &mut left)?;
+    let path = path_in(alloc, room, parent, name)?;
+    let nested = nested_modules(alloc, room, &mut left, path.as_slice(), levels)?;
     Ok(module_of(alloc, path, contents, nested)?)
 }
 
@@ -264,31 +257,31 @@ fn module_object(
 fn module_within(
     alloc: Global,
     room: &mut usize,
-    value: &Value,
+    value: Value,
     parent: &[Text],
     levels: usize,
 ) -> Result<ModuleList, ReadFault>
-    ensures { Gives result ((module_within levels parent.now).read (view value.now)) }
+    ensures { Gives result ((module_within levels parent.now).read (view value)) }
 {
     match levels.checked_sub(1) {
         Some(inner) => module_object(alloc, room, value, parent, inner),
-        None => Err(ReadFault::Bad(Fault::here(alloc, InputKind::WrongForm))),
+        None => Err(ReadFault::wrong_form(alloc)),
     }
 }
 
 /// The root, with all other modules after it.
-#[tactic(auto, unfolding(crate::specs::forms::Modules::root, crate::specs::forms::Modules::contents))]
-fn root(alloc: Global, value: &Value) -> Result<ModuleList, ReadFault>
-    ensures { Gives result (root.read (view value.now)) }
+#[tactic(auto, unfolding(crate::specs::forms::Modules::root, crate::specs::forms::Modules::contents, crate::specs::inside::Left::are_apart, crate::specs::Keys::key_text))]
+fn root(alloc: Global, value: Value) -> Result<ModuleList, ReadFault>
+    ensures { Gives result (root.read (view value)) }
 {
-    only(
+    let mut left = Fields::of(
         alloc,
         value,
         &[Key::Attrs, Key::Items, Key::Aliases, Key::Modules],
     )?;
-    let contents = contents_in(alloc, value)?;
+    let contents = contents_in(alloc, &mut left)?;
     let mut room = PATHS_MOST;
-    let nested = nested_modules(alloc, &mut room, value, &[], 64)?;
+    let nested = nested_modules(alloc, &mut room, &mut left, &[], 64)?;
     Ok(module_of(alloc, Items::new(alloc), contents, nested)?)
 }
 
@@ -297,7 +290,7 @@ impl FromForm for ModuleList {
 
     ghost form = { root.read };
 
-    fn from_form(alloc: Global, value: &Value) -> Result<ModuleList, ReadFault> {
+    fn from_form(alloc: Global, value: Value) -> Result<ModuleList, ReadFault> {
         root(alloc, value)
     }
 }

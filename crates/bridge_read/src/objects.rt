@@ -1,13 +1,13 @@
 //! Objects and lists of the form, whatever they spell.
 
-ghost use Rattle.std.specs.Prelude.{◌≡◌, [], ◌∷◌, option_map, Err, Result};
-ghost use Rattle.serde_json.specs.View.{view, items_view, members_view};
+ghost use Rattle.std.specs.Prelude.{◌≡◌, option_map, Result};
+ghost use Rattle.serde_json.specs.View.{view, members_view};
 ghost use Rattle.bridge_read.specs.declared.fault.Fault.{Fault as Wrong};
 ghost use Rattle.bridge_read.specs.declared.pointer.Step.TheVariants as step;
-ghost use Rattle.bridge_read.specs.Form.{live, members_in, object_of, sole};
-ghost use Rattle.bridge_read.specs.Reading.{Gives, GivesBy, here, inside, under, only, is_one_of, known, at_key, Stops};
+ghost use Rattle.bridge_read.specs.Form.{members_in, object_of};
+ghost use Rattle.bridge_read.specs.Reading.{Gives, GivesBy, at_key, inside, under};
 
-use crate::fault::{Fault, InputKind, ReadFault};
+use crate::fault::ReadFault;
 use crate::keys::Key;
 use crate::pointer::Step;
 use bridge_ast::Text;
@@ -65,70 +65,16 @@ pub fn in_entry<T: Drop>(number: usize, read: Result<T, ReadFault>) -> Result<T,
     }
 }
 
-fn is_one_of(keys: &[Key], text: &str) -> bool
-    ensures { result ≡ is_one_of keys.now text.now }
-{
-    for key in keys {
-        if key.text() == text {
-            return true;
-        }
-    }
-    false
-}
-
-fn known(alloc: Global, keys: &[Key], members: &Map<String, Value>) -> Result<(), ReadFault>
-    ensures { Gives result (known keys.now (members_view members.now.entries)) }
-{
-    for (name, _) in members {
-        if !is_one_of(keys, name.as_str()) {
-            return Err(ReadFault::Bad(Fault::unknown_key(alloc, name.as_str())?));
-        }
-    }
-    Ok(())
-}
-
-/// The one key of these under which something stands, with what stands there.
-pub fn sole<'v>(
-    alloc: Global,
-    value: &'v Value,
-    keys: &[Key],
-) -> Result<(Key, &'v Value), ReadFault>
-    ensures { GivesBy (λ one. (one.0, view one.1.now)) result (sole (live keys.now (view value.now))) }
-{
-    let mut found = None;
-    for key in keys {
-        if let Some(inner) = under(value, *key) {
-            if found.is_some() {
-                return Err(ReadFault::Bad(Fault::here(alloc, InputKind::WrongForm)));
-            }
-            found = Some((*key, inner));
-        }
-    }
-    match found {
-        Some(one) => Ok(one),
-        None => Err(ReadFault::Bad(Fault::here(alloc, InputKind::WrongForm))),
-    }
-}
-
 /// The members of an object.
 #[tactic(auto, unfolding(crate::specs::Form::members_in))]
-pub fn members(alloc: Global, value: &Value) -> Result<&Map<String, Value>, ReadFault>
-    ensures { GivesBy (λ ms. members_view ms.now.entries) result (members_in (view value.now)) }
+pub fn members(alloc: Global, value: Value) -> Result<Map<String, Value>, ReadFault>
+    ensures { GivesBy (λ ms. members_view ms.entries) result (members_in (view value)) }
 {
-    match value.as_object() {
-        Some(members) => Ok(members),
-        None => Err(ReadFault::Bad(Fault::here(alloc, InputKind::WrongForm))),
-    }
-}
-
-/// Tests that the value is an object in which no other keys stand.
-#[tactic(auto, unfolding(crate::specs::Reading::only))]
-pub fn only(alloc: Global, value: &Value, keys: &[Key]) -> Result<(), ReadFault>
-    ensures { Gives result (only keys.now (view value.now)) }
-{
-    match value.as_object() {
-        Some(members) => known(alloc, keys, members),
-        None => Err(ReadFault::Bad(Fault::here(alloc, InputKind::WrongForm))),
+    match value {
+        Value::Object(members) => Ok(members),
+        Value::Null | Value::Bool(_) | Value::Number(_) | Value::String(_) | Value::Array(_) => {
+            Err(ReadFault::wrong_form(alloc))
+        }
     }
 }
 
@@ -139,6 +85,6 @@ pub fn object(alloc: Global, value: &Value) -> Result<(), ReadFault>
 {
     match value.as_object() {
         Some(_) => Ok(()),
-        None => Err(ReadFault::Bad(Fault::here(alloc, InputKind::WrongForm))),
+        None => Err(ReadFault::wrong_form(alloc)),
     }
 }

@@ -1,17 +1,18 @@
 //! What an input says besides declarations: the backend, the configuration, and where documentation lies.
 
-ghost use Rattle.std.specs.Prelude.{◌≡◌, []};
-ghost use Rattle.serde_json.specs.View.{view};
+ghost use Rattle.std.specs.Prelude.{◌≡◌, [], ◌∷◌, List};
+ghost use Rattle.serde_json.specs.Data.{Data};
 ghost use Rattle.hir_attrs.specs.Support.{no_flags};
-ghost use Rattle.bridge_read.specs.Form.{read_alone};
-ghost use Rattle.bridge_read.specs.Reading.{Gives};
-ghost use Rattle.bridge_read.specs.forms.Settings.{backend_names, turned_on};
+ghost use Rattle.bridge_read.specs.declared.keys.Key.{Key as Name};
+ghost use Rattle.bridge_read.specs.Form.{find_word, read_alone};
+ghost use Rattle.bridge_read.specs.forms.Settings.{backend_names, flag_words, turned_on};
+ghost use Rattle.bridge_read.specs.inside.Left.{IsLeft, Takes};
 
 use crate::fault::ReadFault;
+use crate::fields::Fields;
 use crate::keys::Key;
-use crate::objects::{in_member_named, members, only};
-use crate::reading::{FromForm, flag_under, held, listed, needed, optional};
-use crate::words::{Word, one_word};
+use crate::objects::{in_member_named, members};
+use crate::reading::{FromForm, text};
 use bridge_ast::{Items, NoMemory, Text};
 use hir_attrs::{BackendAttrSupport, BasicAttributeValidator, SupportFlag};
 use hir_docs::DocsUrlGenerator;
@@ -21,20 +22,16 @@ use std::alloc::Global;
 use std::collections::BTreeMap;
 use std::marker::Model;
 
-impl Word for SupportFlag {
-    ghost use Rattle.hir_attrs.specs.Support.{every_flag, flag_text};
-
-    ghost written = { flag_text };
-
-    ghost every = { every_flag };
-
-    fn text(self) -> &'static str {
-        SupportFlag::text(self)
+/// The flag of that name.
+fn flag_called(name: &str) -> Option<SupportFlag>
+    ensures { result ≡ find_word flag_words name.now }
+{
+    for flag in SupportFlag::all() {
+        if flag.text() == name {
+            return Some(*flag);
+        }
     }
-
-    fn all() -> &'static [SupportFlag] {
-        SupportFlag::all()
-    }
+    None
 }
 
 #[tactic(auto, unfolding(crate::specs::forms::Settings::support_flag))]
@@ -43,8 +40,11 @@ impl FromForm for SupportFlag {
 
     ghost form = { support_flag.read };
 
-    fn from_form(alloc: Global, value: &Value) -> Result<SupportFlag, ReadFault> {
-        one_word(alloc, value)
+    fn from_form(alloc: Global, value: Value) -> Result<SupportFlag, ReadFault> {
+        match flag_called(text(alloc, &value)?) {
+            Some(flag) => Ok(flag),
+            None => Err(ReadFault::wrong_form(alloc)),
+        }
     }
 }
 
@@ -66,22 +66,22 @@ impl FromForm for BackendAttrSupport {
 
     ghost form = { supported.read };
 
-    fn from_form(alloc: Global, value: &Value) -> Result<BackendAttrSupport, ReadFault> {
+    fn from_form(alloc: Global, value: Value) -> Result<BackendAttrSupport, ReadFault> {
         let flags = Items::from_form(alloc, value)?;
         Ok(turned_on(flags.as_slice()))
     }
 }
 
-#[tactic(auto, unfolding(crate::specs::forms::Settings::name_value))]
+#[tactic(auto, unfolding(crate::specs::forms::Settings::name_value, crate::specs::inside::Left::are_apart, crate::specs::Keys::key_text))]
 impl FromForm for (Text, Text) {
     ghost use Rattle.bridge_read.specs.forms.Settings.{name_value};
 
     ghost form = { name_value.read };
 
-    fn from_form(alloc: Global, value: &Value) -> Result<(Text, Text), ReadFault> {
-        only(alloc, value, &[Key::Name, Key::Value])?;
-        let name = needed(alloc, value, Key::Name)?;
-        let value = needed(alloc, value, Key::Value)?;
+    fn from_form(alloc: Global, value: Value) -> Result<(Text, Text), ReadFault> {
+        let mut left = Fields::of(alloc, value, &[Key::Name, Key::Value])?;
+        let name = left.needed(alloc)?;
+        let value = left.needed(alloc)?;
         Ok((name, value))
     }
 }
@@ -91,23 +91,26 @@ type BackendNames = (Text, Items<Text>, BackendAttrSupport);
 
 /// The keys that the backend begins with.
 #[tactic(auto, unfolding(crate::specs::forms::Settings::backend_names))]
-fn backend_names(alloc: Global, value: &Value) -> Result<BackendNames, ReadFault>
-    ensures { Gives result (read_alone backend_names (view value.now)) }
+fn backend_names(alloc: Global, left: &mut Fields) -> Result<BackendNames, ReadFault>
+    ensures { (keys : List Name) (d : Data)
+        → IsLeft left.old (Key.Name ∷ Key.OtherNames ∷ Key.Supports ∷ keys) d
+        → Takes result (read_alone backend_names d) left.new keys d }
 {
-    let name = held(alloc, value, Key::Name, Text::new(alloc, "")?)?;
-    let others = listed(alloc, value, Key::OtherNames)?;
-    let support = held(alloc, value, Key::Supports, BackendAttrSupport::none())?;
+    let name = left.held(alloc, Text::new(alloc, "")?)?;
+    let others = left.listed(alloc)?;
+    let support = left.held(alloc, BackendAttrSupport::none())?;
     Ok((name, others, support))
 }
 
-#[tactic(auto, unfolding(crate::specs::forms::Settings::backend, crate::specs::forms::Settings::backend_names))]
+#[tactic(auto, unfolding(crate::specs::forms::Settings::backend, crate::specs::forms::Settings::backend_names, crate::specs::inside::Left::are_apart, crate::specs::Keys::key_text))]
 impl FromForm for BasicAttributeValidator {
+    ghost use Rattle.bridge_read.specs.Form.{find_word, read_alone};
     ghost use Rattle.bridge_read.specs.forms.Settings.{backend};
 
     ghost form = { backend.read };
 
-    fn from_form(alloc: Global, value: &Value) -> Result<BasicAttributeValidator, ReadFault> {
-        only(
+    fn from_form(alloc: Global, value: Value) -> Result<BasicAttributeValidator, ReadFault> {
+        let mut left = Fields::of(
             alloc,
             value,
             &[
@@ -119,28 +122,28 @@ impl FromForm for BasicAttributeValidator {
                 Key::Unstable,
             ],
         )?;
-        let (backend_name, other_backend_names, support) = backend_names(alloc, value)?;
+        let (backend_name, other_backend_names, support) = backend_names(alloc, &mut left)?;
         Ok(BasicAttributeValidator {
             backend_name,
             support,
             other_backend_names,
-            name_values: listed(alloc, value, Key::Pairs)?,
-            features_enabled: listed(alloc, value, Key::Features)?,
-            semver_unstable_features: listed(alloc, value, Key::Unstable)?,
+            name_values: left.listed(alloc)?,
+            features_enabled: left.listed(alloc)?,
+            semver_unstable_features: left.listed(alloc)?,
         })
     }
 }
 
-#[tactic(auto, unfolding(crate::specs::forms::Settings::config))]
+#[tactic(auto, unfolding(crate::specs::forms::Settings::config, crate::specs::inside::Left::are_apart, crate::specs::Keys::key_text))]
 impl FromForm for LoweringConfig {
     ghost use Rattle.bridge_read.specs.forms.Settings.{config};
 
     ghost form = { config.read };
 
-    fn from_form(alloc: Global, value: &Value) -> Result<LoweringConfig, ReadFault> {
-        only(alloc, value, &[Key::UnsafeReferences])?;
+    fn from_form(alloc: Global, value: Value) -> Result<LoweringConfig, ReadFault> {
+        let mut left = Fields::of(alloc, value, &[Key::UnsafeReferences])?;
         Ok(LoweringConfig {
-            unsafe_references_in_callbacks: flag_under(alloc, value, Key::UnsafeReferences)?,
+            unsafe_references_in_callbacks: left.flag(alloc)?,
         })
     }
 }
@@ -196,29 +199,29 @@ impl FromForm for Bases {
 
     ghost form = { bases.read };
 
-    fn from_form(alloc: Global, value: &Value) -> Result<Bases, ReadFault> {
+    fn from_form(alloc: Global, value: Value) -> Result<Bases, ReadFault> {
         let mut bases = Bases::new(alloc);
         for (name, entry) in members(alloc, value)? {
             if !entry.is_null() {
                 let url = Text::from_form(alloc, entry);
                 let url = in_member_named(alloc, name.as_str(), url)?;
-                bases.put(Text::new(alloc, name.as_str())?, url)?;
+                bases.put(Text::from(name), url)?;
             }
         }
         Ok(bases)
     }
 }
 
-#[tactic(auto, unfolding(crate::specs::forms::Settings::urls))]
+#[tactic(auto, unfolding(crate::specs::forms::Settings::urls, crate::specs::inside::Left::are_apart, crate::specs::Keys::key_text))]
 impl FromForm for DocsUrlGenerator {
     ghost use Rattle.bridge_read.specs.forms.Settings.{urls};
 
     ghost form = { urls.read };
 
-    fn from_form(alloc: Global, value: &Value) -> Result<DocsUrlGenerator, ReadFault> {
-        only(alloc, value, &[Key::Default, Key::Bases])?;
-        let default = optional(alloc, value, Key::Default)?;
-        let bases = held(alloc, value, Key::Bases, Bases::new(alloc))?;
+    fn from_form(alloc: Global, value: Value) -> Result<DocsUrlGenerator, ReadFault> {
+        let mut left = Fields::of(alloc, value, &[Key::Default, Key::Bases])?;
+        let default = left.optional(alloc)?;
+        let bases = left.held(alloc, Bases::new(alloc))?;
         Ok(DocsUrlGenerator::with_base_urls(default, bases.into_map()))
     }
 }

@@ -1,15 +1,19 @@
 //! Types.
 
-ghost use Rattle.std.specs.Prelude.{◌≡◌, IfOk, IfErr, Ok};
+ghost use Rattle.std.specs.Prelude.{◌≡◌, [], ◌∷◌, List};
+ghost use Rattle.serde_json.specs.Data.{Data};
 ghost use Rattle.serde_json.specs.View.{view};
-ghost use Rattle.bridge_read.specs.Reading.{Gives, needed, list_of};
+ghost use Rattle.bridge_read.specs.declared.keys.Key.{Key as Name};
+ghost use Rattle.bridge_read.specs.Reading.{Gives, held, list_of, needed};
+ghost use Rattle.bridge_read.specs.inside.Left.{IsLeft, Takes};
 ghost use Rattle.bridge_read.specs.forms.Types.{borrow_read, spelling, type_called, type_word, type_keys, type_under, type_within, written_primitive, writer_called, reference_type, result_type, custom_slice, callback, str_slice, str_list, primitive_slice};
 
 use crate::fault::{Fault, InputKind, ReadFault};
+use crate::fields::{Fields, Place};
 use crate::keys::Key;
 use crate::lifetimes::mutability;
-use crate::objects::{in_entry, in_member, only, sole, under};
-use crate::reading::{FromForm, entries, flag_under, needed, optional, room_for, text};
+use crate::objects::{in_entry, in_member};
+use crate::reading::{FromForm, entries, room_for, text};
 use crate::words::find_word;
 use bridge_ast::{
     Boxed, Items, Lifetime, Mutability, PathType, PrimitiveType, StdlibOrDiplomat, TypeName,
@@ -50,7 +54,7 @@ fn type_word(alloc: Global, value: &Value) -> Result<TypeName, ReadFault>
 {
     match type_called(text(alloc, value)?) {
         Some(ty) => Ok(ty),
-        None => Err(ReadFault::Bad(Fault::here(alloc, InputKind::WrongForm))),
+        None => Err(ReadFault::wrong_form(alloc)),
     }
 }
 
@@ -85,44 +89,46 @@ impl FromForm for WriteType {
 
     ghost form = { writer.read };
 
-    fn from_form(alloc: Global, value: &Value) -> Result<WriteType, ReadFault> {
-        match writer_called(text(alloc, value)?) {
+    fn from_form(alloc: Global, value: Value) -> Result<WriteType, ReadFault> {
+        match writer_called(text(alloc, &value)?) {
             Some(writer) => Ok(writer),
-            None => Err(ReadFault::Bad(Fault::here(alloc, InputKind::WrongForm))),
+            None => Err(ReadFault::wrong_form(alloc)),
         }
     }
 }
 
 /// `{"lifetime": lifetime, "encoding": encoding, "std": bool}`.
-#[tactic(auto, unfolding(crate::specs::forms::Types::str_slice))]
-fn str_slice(alloc: Global, value: &Value) -> Result<TypeName, ReadFault>
-    ensures { Gives result (str_slice.read (view value.now)) }
+#[tactic(auto, unfolding(crate::specs::forms::Types::str_slice, crate::specs::inside::Left::are_apart, crate::specs::Keys::key_text))]
+fn str_slice(alloc: Global, value: Value) -> Result<TypeName, ReadFault>
+    ensures { Gives result (str_slice.read (view value)) }
 {
-    only(alloc, value, &[Key::Lifetime, Key::Encoding, Key::Std])?;
-    let lifetime = optional(alloc, value, Key::Lifetime)?;
-    let encoding = needed(alloc, value, Key::Encoding)?;
-    let std = flag_under(alloc, value, Key::Std)?;
+    let mut left = Fields::of(alloc, value, &[Key::Lifetime, Key::Encoding, Key::Std])?;
+    let lifetime = left.optional(alloc)?;
+    let encoding = left.needed(alloc)?;
+    let std = left.flag(alloc)?;
     Ok(TypeName::StrReference(lifetime, encoding, spelling(std)))
 }
 
 /// `{"encoding": encoding, "std": bool}`.
-#[tactic(auto, unfolding(crate::specs::forms::Types::str_list))]
-fn str_list(alloc: Global, value: &Value) -> Result<TypeName, ReadFault>
-    ensures { Gives result (str_list.read (view value.now)) }
+#[tactic(auto, unfolding(crate::specs::forms::Types::str_list, crate::specs::inside::Left::are_apart, crate::specs::Keys::key_text))]
+fn str_list(alloc: Global, value: Value) -> Result<TypeName, ReadFault>
+    ensures { Gives result (str_list.read (view value)) }
 {
-    only(alloc, value, &[Key::Encoding, Key::Std])?;
-    let encoding = needed(alloc, value, Key::Encoding)?;
-    let std = flag_under(alloc, value, Key::Std)?;
+    let mut left = Fields::of(alloc, value, &[Key::Encoding, Key::Std])?;
+    let encoding = left.needed(alloc)?;
+    let std = left.flag(alloc)?;
     Ok(TypeName::StrSlice(encoding, spelling(std)))
 }
 
 /// The lifetime of a slice with its mutability. A slice without a lifetime is owned; that it is mutable is then the wrong form.
 #[tactic(auto, unfolding(crate::specs::forms::Types::written_borrow))]
-fn borrow(alloc: Global, value: &Value) -> Result<Option<(Lifetime, Mutability)>, ReadFault>
-    ensures { Gives result (borrow_read (view value.now)) }
+fn borrow(alloc: Global, left: &mut Fields) -> Result<Option<(Lifetime, Mutability)>, ReadFault>
+    ensures { (keys : List Name) (d : Data)
+        → IsLeft left.old (Key.Lifetime ∷ Key.Mutable ∷ keys) d
+        → Takes result (borrow_read d) left.new keys d }
 {
-    let lifetime = optional(alloc, value, Key::Lifetime)?;
-    let mutable = flag_under(alloc, value, Key::Mutable)?;
+    let lifetime = left.optional(alloc)?;
+    let mutable = left.flag(alloc)?;
     match lifetime {
         Some(lifetime) => Ok(Some((lifetime, mutability(mutable)))),
         None if mutable => {
@@ -134,125 +140,158 @@ fn borrow(alloc: Global, value: &Value) -> Result<Option<(Lifetime, Mutability)>
 }
 
 /// `{"lifetime": lifetime, "mutable": bool, "of": primitive type, "std": bool}`.
-#[tactic(auto, unfolding(crate::specs::forms::Types::primitive_slice, crate::specs::forms::Types::borrow, crate::specs::forms::Types::written_borrow))]
-fn primitive_slice(alloc: Global, value: &Value) -> Result<TypeName, ReadFault>
-    ensures { Gives result (primitive_slice.read (view value.now)) }
+#[tactic(auto, unfolding(crate::specs::forms::Types::primitive_slice, crate::specs::forms::Types::borrow, crate::specs::forms::Types::written_borrow, crate::specs::inside::Left::are_apart, crate::specs::Keys::key_text))]
+fn primitive_slice(alloc: Global, value: Value) -> Result<TypeName, ReadFault>
+    ensures { Gives result (primitive_slice.read (view value)) }
 {
-    only(
+    let mut left = Fields::of(
         alloc,
         value,
         &[Key::Lifetime, Key::Mutable, Key::Of, Key::Std],
     )?;
-    let borrow = borrow(alloc, value)?;
-    let of = needed(alloc, value, Key::Of)?;
-    let std = flag_under(alloc, value, Key::Std)?;
+    let borrow = borrow(alloc, &mut left)?;
+    let of = left.needed(alloc)?;
+    let std = left.flag(alloc)?;
     Ok(TypeName::PrimitiveSlice(borrow, of, spelling(std)))
 }
 
 /// A type as what a type leads to.
 #[cycle(types)]
-fn boxed(alloc: Global, value: &Value, levels: usize) -> Result<Boxed<TypeName>, ReadFault>
-    ensures { Gives result ((type_within levels).read (view value.now)) }
+fn boxed(alloc: Global, value: Value, levels: usize) -> Result<Boxed<TypeName>, ReadFault>
+    ensures { Gives result ((type_within levels).read (view value)) }
 {
     Ok(Boxed::new(alloc, type_within(alloc, value, levels)?)?)
 }
 
-/// A type under a key that is required, as what a type leads to.
+/// A type under the next key, which is required, as what a type leads to.
 #[cycle(types)]
 fn needed_type(
     alloc: Global,
-    value: &Value,
-    key: Key,
+    left: &mut Fields,
     levels: usize,
 ) -> Result<Boxed<TypeName>, ReadFault>
-    ensures { Gives result (needed (type_within levels).read key (view value.now)) }
+    ensures { (key : Name) (keys : List Name) (d : Data) → IsLeft left.old (key ∷ keys) d
+        → Takes result (needed (type_within levels).read key d) left.new keys d }
 {
-    match under(value, key) {
-        Some(found) => in_member(alloc, key, boxed(alloc, found, levels)),
-        None => Err(ReadFault::Bad(Fault::here(alloc, InputKind::MissingKey))),
+    let Place { key, value } = left.next();
+    match value {
+        Some(value) => in_member(alloc, key, boxed(alloc, value, levels)),
+        None => Err(ReadFault::missing_key(alloc)),
     }
 }
 
 /// `{"lifetime": lifetime, "mutable": bool, "to": type}`.
 #[cycle(types)]
-fn reference_type(alloc: Global, value: &Value, levels: usize) -> Result<TypeName, ReadFault>
-    ensures { Gives result ((reference_type (type_within levels)).read (view value.now)) }
+#[tactic(auto, unfolding(crate::specs::inside::Left::are_apart, crate::specs::Keys::key_text))]
+fn reference_type(alloc: Global, value: Value, levels: usize) -> Result<TypeName, ReadFault>
+    ensures { Gives result ((reference_type (type_within levels)).read (view value)) }
 {
-    only(alloc, value, &[Key::Lifetime, Key::Mutable, Key::To])?;
-    let lifetime = needed(alloc, value, Key::Lifetime)?;
-    let mutable = flag_under(alloc, value, Key::Mutable)?;
-    let to = needed_type(alloc, value, Key::To, levels)?;
+    let mut left = Fields::of(alloc, value, &[Key::Lifetime, Key::Mutable, Key::To])?;
+    let lifetime = left.needed(alloc)?;
+    let mutable = left.flag(alloc)?;
+    let to = needed_type(alloc, &mut left, levels)?;
     Ok(TypeName::Reference(lifetime, mutability(mutable), to))
 }
 
 /// `{"ok": type, "err": type}`.
 #[cycle(types)]
+#[tactic(auto, unfolding(crate::specs::inside::Left::are_apart, crate::specs::Keys::key_text))]
 fn result_type(
     alloc: Global,
-    value: &Value,
+    value: Value,
     whose: StdlibOrDiplomat,
     levels: usize,
 ) -> Result<TypeName, ReadFault>
-    ensures { Gives result ((result_type (type_within levels) whose).read (view value.now)) }
+    ensures { Gives result ((result_type (type_within levels) whose).read (view value)) }
 {
-    only(alloc, value, &[Key::OkType, Key::ErrType])?;
-    let ok = needed_type(alloc, value, Key::OkType, levels)?;
-    let err = needed_type(alloc, value, Key::ErrType, levels)?;
+    let mut left = Fields::of(alloc, value, &[Key::OkType, Key::ErrType])?;
+    let ok = needed_type(alloc, &mut left, levels)?;
+    let err = needed_type(alloc, &mut left, levels)?;
     Ok(TypeName::Result(ok, err, whose))
 }
 
 /// `{"lifetime": lifetime, "mutable": bool, "of": type, "std": bool}`.
 #[cycle(types)]
-#[tactic(auto, unfolding(crate::specs::forms::Types::borrow, crate::specs::forms::Types::written_borrow))]
-fn custom_slice(alloc: Global, value: &Value, levels: usize) -> Result<TypeName, ReadFault>
-    ensures { Gives result ((custom_slice (type_within levels)).read (view value.now)) }
+#[tactic(auto, unfolding(crate::specs::forms::Types::borrow, crate::specs::forms::Types::written_borrow, crate::specs::inside::Left::are_apart, crate::specs::Keys::key_text))]
+fn custom_slice(alloc: Global, value: Value, levels: usize) -> Result<TypeName, ReadFault>
+    ensures { Gives result ((custom_slice (type_within levels)).read (view value)) }
 {
-    only(
+    let mut left = Fields::of(
         alloc,
         value,
         &[Key::Lifetime, Key::Mutable, Key::Of, Key::Std],
     )?;
-    let borrow = borrow(alloc, value)?;
-    let of = needed_type(alloc, value, Key::Of, levels)?;
-    let std = flag_under(alloc, value, Key::Std)?;
+    let borrow = borrow(alloc, &mut left)?;
+    let of = needed_type(alloc, &mut left, levels)?;
+    let std = left.flag(alloc)?;
     Ok(TypeName::CustomTypeSlice(borrow, of, spelling(std)))
 }
 
 /// The types of a list.
 #[cycle(types)]
-fn type_list(alloc: Global, value: &Value, levels: usize) -> Result<Items<TypeName>, ReadFault>
-    ensures { Gives result (list_of (type_within levels).read (view value.now)) }
+fn type_list(alloc: Global, value: Value, levels: usize) -> Result<Items<TypeName>, ReadFault>
+    ensures { Gives result (list_of (type_within levels).read (view value)) }
 {
     let entries = entries(alloc, value)?;
     let mut list = room_for(alloc, entries.len())?;
-    for (number, entry) in entries.iter().enumerate() {
+    for entry in entries {
+        let number = list.as_slice().len();
         list.push(in_entry(number, type_within(alloc, entry, levels))?)?;
     }
     Ok(list)
 }
 
+/// The types of parameters under the next key; none where nothing stands there.
+#[cycle(types)]
+fn types_under(
+    alloc: Global,
+    left: &mut Fields,
+    levels: usize,
+) -> Result<Items<TypeName>, ReadFault>
+    ensures { (key : Name) (keys : List Name) (d : Data) → IsLeft left.old (key ∷ keys) d
+        → Takes result (held [] (list_of (type_within levels).read) key d) left.new keys d }
+{
+    let Place { key, value } = left.next();
+    match value {
+        Some(value) => in_member(alloc, key, type_list(alloc, value, levels)),
+        None => Ok(Items::new(alloc)),
+    }
+}
+
+/// The type under the next key, as what a type leads to; `()` where nothing stands there.
+#[cycle(types)]
+fn type_or_unit(
+    alloc: Global,
+    left: &mut Fields,
+    levels: usize,
+) -> Result<Boxed<TypeName>, ReadFault>
+    ensures { (key : Name) (keys : List Name) (d : Data) → IsLeft left.old (key ∷ keys) d
+        → Takes result (held TypeName.Unit (type_within levels).read key d) left.new keys d }
+{
+    let Place { key, value } = left.next();
+    match value {
+        Some(value) => in_member(alloc, key, boxed(alloc, value, levels)),
+        None => Ok(Boxed::new(alloc, TypeName::Unit)?),
+    }
+}
+
 /// `{"params": [types], "ret": type, "mutable": bool}`.
 #[cycle(types)]
-fn callback(alloc: Global, value: &Value, levels: usize) -> Result<TypeName, ReadFault>
-    ensures { Gives result ((callback (type_within levels)).read (view value.now)) }
+#[tactic(auto, unfolding(crate::specs::inside::Left::are_apart, crate::specs::Keys::key_text))]
+fn callback(alloc: Global, value: Value, levels: usize) -> Result<TypeName, ReadFault>
+    ensures { Gives result ((callback (type_within levels)).read (view value)) }
 {
-    only(alloc, value, &[Key::Params, Key::Ret, Key::Mutable])?;
-    let params = match under(value, Key::Params) {
-        Some(found) => in_member(alloc, Key::Params, type_list(alloc, found, levels))?,
-        None => Items::new(alloc),
-    };
-    let ret = match under(value, Key::Ret) {
-        Some(found) => in_member(alloc, Key::Ret, boxed(alloc, found, levels))?,
-        None => Boxed::new(alloc, TypeName::Unit)?,
-    };
-    let mutable = flag_under(alloc, value, Key::Mutable)?;
+    let mut left = Fields::of(alloc, value, &[Key::Params, Key::Ret, Key::Mutable])?;
+    let params = types_under(alloc, &mut left, levels)?;
+    let ret = type_or_unit(alloc, &mut left, levels)?;
+    let mutable = left.flag(alloc)?;
     Ok(TypeName::Function(params, ret, mutability(mutable)))
 }
 
 /// What stands under the key of a type, by the key.
 #[cycle(types)]
-fn type_under(alloc: Global, key: Key, value: &Value, levels: usize) -> Result<TypeName, ReadFault>
-    ensures { Gives result ((type_under (type_within levels) key).read (view value.now)) }
+fn type_under(alloc: Global, key: Key, value: Value, levels: usize) -> Result<TypeName, ReadFault>
+    ensures { Gives result ((type_under (type_within levels) key).read (view value)) }
 {
     match key {
         Key::Named => Ok(TypeName::Named(PathType::from_form(alloc, value)?)),
@@ -276,24 +315,23 @@ fn type_under(alloc: Global, key: Key, value: &Value, levels: usize) -> Result<T
         Key::Slice => primitive_slice(alloc, value),
         Key::CustomSlice => custom_slice(alloc, value, levels),
         Key::Callback => callback(alloc, value, levels),
-        _ => Err(ReadFault::Bad(Fault::here(alloc, InputKind::WrongForm))),
+        _ => Err(ReadFault::wrong_form(alloc)),
     }
 }
 
 /// A type in which types nest at most so deep.
 #[cycle(types)]
-fn type_within(alloc: Global, value: &Value, levels: usize) -> Result<TypeName, ReadFault>
-    ensures { Gives result ((type_within levels).read (view value.now)) }
+#[tactic(auto, unfolding(crate::specs::inside::Left::are_apart, crate::specs::Keys::key_text))]
+fn type_within(alloc: Global, value: Value, levels: usize) -> Result<TypeName, ReadFault>
+    ensures { Gives result ((type_within levels).read (view value)) }
 {
     let Some(inner) = levels.checked_sub(1) else {
-        return Err(ReadFault::Bad(Fault::here(alloc, InputKind::WrongForm)));
+        return Err(ReadFault::wrong_form(alloc));
     };
     if let Some(_) = value.as_str() {
-        return type_word(alloc, value);
+        return type_word(alloc, &value);
     }
-    let keys = type_keys();
-    only(alloc, value, keys)?;
-    let (key, found) = sole(alloc, value, keys)?;
+    let (key, found) = Fields::of(alloc, value, type_keys())?.sole(alloc)?;
     in_member(alloc, key, type_under(alloc, key, found, inner))
 }
 
@@ -326,7 +364,7 @@ impl FromForm for TypeName {
 
     ghost form = { type_name.read };
 
-    fn from_form(alloc: Global, value: &Value) -> Result<TypeName, ReadFault> {
+    fn from_form(alloc: Global, value: Value) -> Result<TypeName, ReadFault> {
         type_within(alloc, value, 128)
     }
 }

@@ -5,7 +5,7 @@ ghost use Rattle.serde_json.specs.View.{view};
 ghost use Rattle.bridge_read.specs.Form.{find_word, one_word};
 ghost use Rattle.bridge_read.specs.Reading.{Gives};
 
-use crate::fault::{Fault, InputKind, ReadFault};
+use crate::fault::ReadFault;
 use crate::reading::{FromForm, text};
 use bridge_ast::{DocType, PrimitiveType, RustLinkDisplay, StringEncoding};
 use serde_json::Value;
@@ -14,28 +14,23 @@ use std::alloc::Global;
 /// Values for which words stand.
 pub trait Word: Copy + 'static {
     ghost use Rattle.std.specs.Prelude.{List, ℕ};
+    ghost use Rattle.bridge_read.specs.inside.Tables.{all_written};
 
-    /// The word of a value.
-    ghost written: { Self → List ℕ };
+    /// The words, each with its value.
+    ghost words: { List (List ℕ × Self) };
 
-    /// All values.
-    ghost every: { List Self };
-
-    /// The word of the value.
-    fn text(self) -> &'static str
-        ensures { result.now ≡ written self };
-
-    /// All values.
-    fn all() -> &'static [Self]
-        ensures { result.now ≡ every };
+    /// The words, each with its value.
+    fn words() -> &'static [(&'static str, Self)]
+        ensures { all_written result.now ≡ words };
 }
 
 /// The value for which a word stands.
-pub fn find_word<W: Word>(word: &str) -> Option<W>
-    ensures { result ≡ find_word W.written W.every word.now }
+#[tactic(auto, using(crate::proofs::WordLemmas::found_here, crate::proofs::WordLemmas::none_next))]
+pub fn find_word<W: Word>(name: &str) -> Option<W>
+    ensures { result ≡ find_word W.words name.now }
 {
-    for value in W::all() {
-        if value.text() == word {
+    for (word, value) in W::words() {
+        if *word == name {
             return Some(*value);
         }
     }
@@ -44,63 +39,39 @@ pub fn find_word<W: Word>(word: &str) -> Option<W>
 
 /// The value whose word the JSON value is.
 pub fn one_word<W: Word>(alloc: Global, value: &Value) -> Result<W, ReadFault>
-    ensures { Gives result ((one_word W.written W.every).read (view value.now)) }
+    ensures { Gives result ((one_word W.words).read (view value.now)) }
 {
     match find_word(text(alloc, value)?) {
         Some(word) => Ok(word),
-        None => Err(ReadFault::Bad(Fault::here(alloc, InputKind::WrongForm))),
+        None => Err(ReadFault::wrong_form(alloc)),
     }
 }
 
-#[tactic(auto, unfolding(crate::specs::Words::primitive_text, crate::specs::Words::every_primitive))]
+#[tactic(auto, unfolding(crate::specs::Words::primitive_words))]
 impl Word for PrimitiveType {
-    ghost use Rattle.bridge_read.specs.Words.{primitive_text, every_primitive};
+    ghost use Rattle.bridge_read.specs.Words.{primitive_words};
 
-    ghost written = { primitive_text };
+    ghost words = { primitive_words };
 
-    ghost every = { every_primitive };
-
-    fn text(self) -> &'static str {
-        match self {
-            PrimitiveType::i8 => "i8",
-            PrimitiveType::u8 => "u8",
-            PrimitiveType::i16 => "i16",
-            PrimitiveType::u16 => "u16",
-            PrimitiveType::i32 => "i32",
-            PrimitiveType::u32 => "u32",
-            PrimitiveType::i64 => "i64",
-            PrimitiveType::u64 => "u64",
-            PrimitiveType::isize => "isize",
-            PrimitiveType::usize => "usize",
-            PrimitiveType::i128 => "i128",
-            PrimitiveType::u128 => "u128",
-            PrimitiveType::f32 => "f32",
-            PrimitiveType::f64 => "f64",
-            PrimitiveType::bool => "bool",
-            PrimitiveType::char => "char",
-            PrimitiveType::byte => "byte",
-        }
-    }
-
-    fn all() -> &'static [PrimitiveType] {
+    fn words() -> &'static [(&'static str, PrimitiveType)] {
         &[
-            PrimitiveType::i8,
-            PrimitiveType::u8,
-            PrimitiveType::i16,
-            PrimitiveType::u16,
-            PrimitiveType::i32,
-            PrimitiveType::u32,
-            PrimitiveType::i64,
-            PrimitiveType::u64,
-            PrimitiveType::isize,
-            PrimitiveType::usize,
-            PrimitiveType::i128,
-            PrimitiveType::u128,
-            PrimitiveType::f32,
-            PrimitiveType::f64,
-            PrimitiveType::bool,
-            PrimitiveType::char,
-            PrimitiveType::byte,
+            ("i8", PrimitiveType::i8),
+            ("u8", PrimitiveType::u8),
+            ("i16", PrimitiveType::i16),
+            ("u16", PrimitiveType::u16),
+            ("i32", PrimitiveType::i32),
+            ("u32", PrimitiveType::u32),
+            ("i64", PrimitiveType::i64),
+            ("u64", PrimitiveType::u64),
+            ("isize", PrimitiveType::isize),
+            ("usize", PrimitiveType::usize),
+            ("i128", PrimitiveType::i128),
+            ("u128", PrimitiveType::u128),
+            ("f32", PrimitiveType::f32),
+            ("f64", PrimitiveType::f64),
+            ("bool", PrimitiveType::bool),
+            ("char", PrimitiveType::char),
+            ("byte", PrimitiveType::byte),
         ]
     }
 }
@@ -111,32 +82,22 @@ impl FromForm for PrimitiveType {
 
     ghost form = { primitive_name.read };
 
-    fn from_form(alloc: Global, value: &Value) -> Result<PrimitiveType, ReadFault> {
-        one_word(alloc, value)
+    fn from_form(alloc: Global, value: Value) -> Result<PrimitiveType, ReadFault> {
+        one_word(alloc, &value)
     }
 }
 
-#[tactic(auto, unfolding(crate::specs::Words::encoding_text, crate::specs::Words::every_encoding))]
+#[tactic(auto, unfolding(crate::specs::Words::encoding_words))]
 impl Word for StringEncoding {
-    ghost use Rattle.bridge_read.specs.Words.{encoding_text, every_encoding};
+    ghost use Rattle.bridge_read.specs.Words.{encoding_words};
 
-    ghost written = { encoding_text };
+    ghost words = { encoding_words };
 
-    ghost every = { every_encoding };
-
-    fn text(self) -> &'static str {
-        match self {
-            StringEncoding::Utf8 => "utf8",
-            StringEncoding::UnvalidatedUtf8 => "unvalidated_utf8",
-            StringEncoding::UnvalidatedUtf16 => "unvalidated_utf16",
-        }
-    }
-
-    fn all() -> &'static [StringEncoding] {
+    fn words() -> &'static [(&'static str, StringEncoding)] {
         &[
-            StringEncoding::Utf8,
-            StringEncoding::UnvalidatedUtf8,
-            StringEncoding::UnvalidatedUtf16,
+            ("utf8", StringEncoding::Utf8),
+            ("unvalidated_utf8", StringEncoding::UnvalidatedUtf8),
+            ("unvalidated_utf16", StringEncoding::UnvalidatedUtf16),
         ]
     }
 }
@@ -147,70 +108,50 @@ impl FromForm for StringEncoding {
 
     ghost form = { encoding.read };
 
-    fn from_form(alloc: Global, value: &Value) -> Result<StringEncoding, ReadFault> {
-        one_word(alloc, value)
+    fn from_form(alloc: Global, value: Value) -> Result<StringEncoding, ReadFault> {
+        one_word(alloc, &value)
     }
 }
 
-#[tactic(auto, unfolding(crate::specs::Words::doc_text, crate::specs::Words::every_doc))]
+#[tactic(auto, unfolding(crate::specs::Words::doc_words))]
 impl Word for DocType {
-    ghost use Rattle.bridge_read.specs.Words.{doc_text, every_doc};
+    ghost use Rattle.bridge_read.specs.Words.{doc_words};
 
-    ghost written = { doc_text };
+    ghost words = { doc_words };
 
-    ghost every = { every_doc };
-
-    fn text(self) -> &'static str {
-        match self {
-            DocType::Struct => "Struct",
-            DocType::StructField => "StructField",
-            DocType::Enum => "Enum",
-            DocType::EnumVariant => "EnumVariant",
-            DocType::EnumVariantField => "EnumVariantField",
-            DocType::Trait => "Trait",
-            DocType::FnInStruct => "FnInStruct",
-            DocType::FnInTypedef => "FnInTypedef",
-            DocType::FnInEnum => "FnInEnum",
-            DocType::FnInTrait => "FnInTrait",
-            DocType::DefaultFnInTrait => "DefaultFnInTrait",
-            DocType::Fn => "Fn",
-            DocType::Mod => "Mod",
-            DocType::Constant => "Constant",
-            DocType::AssociatedConstantInEnum => "AssociatedConstantInEnum",
-            DocType::AssociatedConstantInTrait => "AssociatedConstantInTrait",
-            DocType::AssociatedConstantInStruct => "AssociatedConstantInStruct",
-            DocType::Macro => "Macro",
-            DocType::AssociatedTypeInEnum => "AssociatedTypeInEnum",
-            DocType::AssociatedTypeInTrait => "AssociatedTypeInTrait",
-            DocType::AssociatedTypeInStruct => "AssociatedTypeInStruct",
-            DocType::Typedef => "Typedef",
-        }
-    }
-
-    fn all() -> &'static [DocType] {
+    fn words() -> &'static [(&'static str, DocType)] {
         &[
-            DocType::Struct,
-            DocType::StructField,
-            DocType::Enum,
-            DocType::EnumVariant,
-            DocType::EnumVariantField,
-            DocType::Trait,
-            DocType::FnInStruct,
-            DocType::FnInTypedef,
-            DocType::FnInEnum,
-            DocType::FnInTrait,
-            DocType::DefaultFnInTrait,
-            DocType::Fn,
-            DocType::Mod,
-            DocType::Constant,
-            DocType::AssociatedConstantInEnum,
-            DocType::AssociatedConstantInTrait,
-            DocType::AssociatedConstantInStruct,
-            DocType::Macro,
-            DocType::AssociatedTypeInEnum,
-            DocType::AssociatedTypeInTrait,
-            DocType::AssociatedTypeInStruct,
-            DocType::Typedef,
+            ("Struct", DocType::Struct),
+            ("StructField", DocType::StructField),
+            ("Enum", DocType::Enum),
+            ("EnumVariant", DocType::EnumVariant),
+            ("EnumVariantField", DocType::EnumVariantField),
+            ("Trait", DocType::Trait),
+            ("FnInStruct", DocType::FnInStruct),
+            ("FnInTypedef", DocType::FnInTypedef),
+            ("FnInEnum", DocType::FnInEnum),
+            ("FnInTrait", DocType::FnInTrait),
+            ("DefaultFnInTrait", DocType::DefaultFnInTrait),
+            ("Fn", DocType::Fn),
+            ("Mod", DocType::Mod),
+            ("Constant", DocType::Constant),
+            (
+                "AssociatedConstantInEnum",
+                DocType::AssociatedConstantInEnum,
+            ),
+            (
+                "AssociatedConstantInTrait",
+                DocType::AssociatedConstantInTrait,
+            ),
+            (
+                "AssociatedConstantInStruct",
+                DocType::AssociatedConstantInStruct,
+            ),
+            ("Macro", DocType::Macro),
+            ("AssociatedTypeInEnum", DocType::AssociatedTypeInEnum),
+            ("AssociatedTypeInTrait", DocType::AssociatedTypeInTrait),
+            ("AssociatedTypeInStruct", DocType::AssociatedTypeInStruct),
+            ("Typedef", DocType::Typedef),
         ]
     }
 }
@@ -221,32 +162,22 @@ impl FromForm for DocType {
 
     ghost form = { doc_kind.read };
 
-    fn from_form(alloc: Global, value: &Value) -> Result<DocType, ReadFault> {
-        one_word(alloc, value)
+    fn from_form(alloc: Global, value: Value) -> Result<DocType, ReadFault> {
+        one_word(alloc, &value)
     }
 }
 
-#[tactic(auto, unfolding(crate::specs::Words::display_text, crate::specs::Words::every_display))]
+#[tactic(auto, unfolding(crate::specs::Words::display_words))]
 impl Word for RustLinkDisplay {
-    ghost use Rattle.bridge_read.specs.Words.{display_text, every_display};
+    ghost use Rattle.bridge_read.specs.Words.{display_words};
 
-    ghost written = { display_text };
+    ghost words = { display_words };
 
-    ghost every = { every_display };
-
-    fn text(self) -> &'static str {
-        match self {
-            RustLinkDisplay::Normal => "normal",
-            RustLinkDisplay::Compact => "compact",
-            RustLinkDisplay::Hidden => "hidden",
-        }
-    }
-
-    fn all() -> &'static [RustLinkDisplay] {
+    fn words() -> &'static [(&'static str, RustLinkDisplay)] {
         &[
-            RustLinkDisplay::Normal,
-            RustLinkDisplay::Compact,
-            RustLinkDisplay::Hidden,
+            ("normal", RustLinkDisplay::Normal),
+            ("compact", RustLinkDisplay::Compact),
+            ("hidden", RustLinkDisplay::Hidden),
         ]
     }
 }
@@ -257,8 +188,8 @@ impl FromForm for RustLinkDisplay {
 
     ghost form = { display.read };
 
-    fn from_form(alloc: Global, value: &Value) -> Result<RustLinkDisplay, ReadFault> {
-        one_word(alloc, value)
+    fn from_form(alloc: Global, value: Value) -> Result<RustLinkDisplay, ReadFault> {
+        one_word(alloc, &value)
     }
 }
 
@@ -273,44 +204,20 @@ pub enum ItemKind {
     Function,
 }
 
-#[tactic(auto, unfolding(crate::specs::Words::item_kind_text, crate::specs::Words::every_item_kind))]
+#[tactic(auto, unfolding(crate::specs::Words::item_kind_words))]
 impl Word for ItemKind {
-    ghost use Rattle.bridge_read.specs.Words.{item_kind_text, every_item_kind};
+    ghost use Rattle.bridge_read.specs.Words.{item_kind_words};
 
-    ghost written = { item_kind_text };
+    ghost words = { item_kind_words };
 
-    ghost every = { every_item_kind };
-
-    fn text(self) -> &'static str {
-        match self {
-            ItemKind::Struct => "struct",
-            ItemKind::OutStruct => "out_struct",
-            ItemKind::Opaque => "opaque",
-            ItemKind::Enum => "enum",
-            ItemKind::Trait => "trait",
-            ItemKind::Function => "function",
-        }
-    }
-
-    fn all() -> &'static [ItemKind] {
+    fn words() -> &'static [(&'static str, ItemKind)] {
         &[
-            ItemKind::Struct,
-            ItemKind::OutStruct,
-            ItemKind::Opaque,
-            ItemKind::Enum,
-            ItemKind::Trait,
-            ItemKind::Function,
+            ("struct", ItemKind::Struct),
+            ("out_struct", ItemKind::OutStruct),
+            ("opaque", ItemKind::Opaque),
+            ("enum", ItemKind::Enum),
+            ("trait", ItemKind::Trait),
+            ("function", ItemKind::Function),
         ]
-    }
-}
-
-impl FromForm for ItemKind {
-    ghost use Rattle.bridge_read.specs.Form.{one_word};
-    ghost use Rattle.bridge_read.specs.Words.{item_kind_text, every_item_kind};
-
-    ghost form = { (one_word item_kind_text every_item_kind).read };
-
-    fn from_form(alloc: Global, value: &Value) -> Result<ItemKind, ReadFault> {
-        one_word(alloc, value)
     }
 }

@@ -7,7 +7,7 @@ use Rattle.bridge_decl.specs.declared.docs.RustLink.{RustLink}
 use Rattle.bridge_decl.specs.declared.docs.RustLinkDisplay.{RustLinkDisplay}
 use Rattle.bridge_decl.specs.declared.attrs.Attrs.{Attrs}
 use Rattle.bridge_read.specs.declared.keys.Key.TheVariants as key
-use Rattle.bridge_read.specs.Words.{doc_text, every_doc, display_text, every_display}
+use Rattle.bridge_read.specs.Words.{doc_words, display_words}
 use Rattle.bridge_read.specs.forms.Docs.{block_of, block, doc_kind, display, link_of, link, docs_of, docs, no_docs, about_of, documented}
 use Rattle.bridge_read.proofs.FormLaws.{Lawful, LawfulParts}
 use Rattle.bridge_read.proofs.Proved.{Proved, ProvedParts, List_of, Object, Made, Needs, May_be, ◌&&&◌, Text, One_word}
@@ -23,14 +23,14 @@ P_block = record { form = block; lawful = block_lawful }
 
 pub doc_kind_lawful : Lawful doc_kind
 unfolding doc_kind
-doc_kind_lawful = (One_word doc_text every_doc).lawful
+doc_kind_lawful = (One_word doc_words).lawful
 
 abbrev pub P_doc_kind : Proved DocType
 P_doc_kind = record { form = doc_kind; lawful = doc_kind_lawful }
 
 pub display_lawful : Lawful display
 unfolding display
-display_lawful = (One_word display_text every_display).lawful
+display_lawful = (One_word display_words).lawful
 
 abbrev pub P_display : Proved RustLinkDisplay
 P_display = record { form = display; lawful = display_lawful }

@@ -6,7 +6,7 @@ use Rattle.bridge_decl.specs.declared.structs.Field.{Field}
 use Rattle.bridge_read.specs.declared.keys.Key.TheVariants as key
 use Rattle.bridge_read.specs.declared.words.ItemKind.{ItemKind}
 use Rattle.bridge_read.specs.declared.words.ItemKind.TheVariants as kind
-use Rattle.bridge_read.specs.Words.{item_kind_text, every_item_kind}
+use Rattle.bridge_read.specs.Words.{item_kind_words}
 use Rattle.bridge_read.specs.forms.Items.{field_of, field, variant_of, variant, struct_of, struct_parts, opaque_of, opaque_parts, enum_of, enum_parts, trait_of, trait_parts, function_of, function_parts, parts_of, item_form}
 use Rattle.bridge_read.proofs.FormLaws.{Lawful, LawfulParts}
 use Rattle.bridge_read.proofs.Proved.{Proved, ProvedParts, List_of, Object, Made, Needs, May_have, May_be, Skips, Grouped, ◌&&&◌, Text, Flag, Integer, One_word}
@@ -73,7 +73,7 @@ parts_of_lawful kind.Function = function_parts_lawful
 
 pub item_form_lawful : Lawful item_form
 unfolding item_form
-item_form_lawful = chosen_lawful key.Kind (one_word item_kind_text every_item_kind) (λ of_kind. object_with (parts_of of_kind)) (One_word item_kind_text every_item_kind).lawful (λ of_kind. object_lawful (parts_of of_kind) (parts_of_lawful of_kind))
+item_form_lawful = chosen_lawful key.Kind (one_word item_kind_words) (λ of_kind. object_with (parts_of of_kind)) (One_word item_kind_words).lawful (λ of_kind. object_lawful (parts_of of_kind) (parts_of_lawful of_kind))
 
 abbrev pub P_item_form : Proved Item
 P_item_form = record { form = item_form; lawful = item_form_lawful }

@@ -3,17 +3,17 @@ use Rattle.std.specs.Prelude.{ℕ, List, [], false}
 use Rattle.hir_attrs.specs.declared.support.BackendAttrSupport.{BackendAttrSupport}
 use Rattle.hir_attrs.specs.declared.support.flag.SupportFlag.{SupportFlag}
 use Rattle.hir_attrs.specs.declared.validator.BasicAttributeValidator.{BasicAttributeValidator}
-use Rattle.hir_attrs.specs.Support.{every_flag, flag_text, no_flags}
+use Rattle.hir_attrs.specs.Support.{no_flags}
 use Rattle.hir_docs.specs.Urls.{BaseUrls}
 use Rattle.hir_lower.specs.declared.config.LoweringConfig.{LoweringConfig}
 use Rattle.bridge_read.specs.declared.keys.Key.TheVariants as key
-use Rattle.bridge_read.specs.forms.Settings.{turned_on, support_flag, supported, pair_of, name_value, names_of, backend_names, backend_of, backend, config_of, config, entered, bases, urls_of, urls}
+use Rattle.bridge_read.specs.forms.Settings.{flag_words, turned_on, support_flag, supported, pair_of, name_value, names_of, backend_names, backend_of, backend, config_of, config, entered, bases, urls_of, urls}
 use Rattle.bridge_read.proofs.FormLaws.{Lawful, LawfulParts}
 use Rattle.bridge_read.proofs.Proved.{Proved, ProvedParts, List_of, Object, Made, Needs, May_have, May_be, Dictionary, Grouped, ◌&&&◌, Text, Flag, Mapped, One_word}
 
 pub support_flag_lawful : Lawful support_flag
 unfolding support_flag
-support_flag_lawful = (One_word flag_text every_flag).lawful
+support_flag_lawful = (One_word flag_words).lawful
 
 abbrev pub P_support_flag : Proved SupportFlag
 P_support_flag = record { form = support_flag; lawful = support_flag_lawful }

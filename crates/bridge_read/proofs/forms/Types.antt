@@ -10,7 +10,7 @@ use Rattle.bridge_decl.specs.declared.types.TypeName.{TypeName}
 use Rattle.bridge_decl.specs.declared.types.TypeName.TheVariants as type
 use Rattle.bridge_read.specs.declared.keys.Key.{Key}
 use Rattle.bridge_read.specs.declared.keys.Key.TheVariants as key
-use Rattle.bridge_read.specs.Words.{primitive_text, every_primitive, encoding_text, every_encoding}
+use Rattle.bridge_read.specs.Words.{primitive_words, encoding_words}
 use Rattle.bridge_read.specs.forms.Types.{type_called, type_word, writer_called, writer, primitive_name, encoding, str_slice_of, str_slice, str_list_of, str_list, borrow_of, both_of, written_borrow, borrow, primitive_slice_of, primitive_slice, reference_type_of, result_of, custom_slice_of, callback_of, option_type_of, type_keys, type_within, type_name, type_under}
 use Rattle.bridge_read.proofs.FormLaws.{Lawful, LawfulParts}
 use Rattle.bridge_read.proofs.Proved.{Proved, ProvedParts, List_of, Object, Made, Needs, May_have, May_be, Never, ◌&&&◌, Refined, Refined_at, Text, Flag, Mapped, One_word}
@@ -34,14 +34,14 @@ P_writer = record { form = writer; lawful = writer_lawful }
 
 pub primitive_name_lawful : Lawful primitive_name
 unfolding primitive_name
-primitive_name_lawful = (One_word primitive_text every_primitive).lawful
+primitive_name_lawful = (One_word primitive_words).lawful
 
 abbrev pub P_primitive_name : Proved PrimitiveType
 P_primitive_name = record { form = primitive_name; lawful = primitive_name_lawful }
 
 pub encoding_lawful : Lawful encoding
 unfolding encoding
-encoding_lawful = (One_word encoding_text every_encoding).lawful
+encoding_lawful = (One_word encoding_words).lawful
 
 abbrev pub P_encoding : Proved StringEncoding
 P_encoding = record { form = encoding; lawful = encoding_lawful }

@@ -9,7 +9,7 @@ use Rattle.bridge_decl.specs.declared.attrs.Attrs.{Attrs}
 use Rattle.bridge_decl.specs.declared.attrs.DiplomatBackendAttrCfg.{DiplomatBackendAttrCfg}
 use Rattle.bridge_read.specs.declared.keys.Key.TheVariants as key
 use Rattle.bridge_read.specs.Form.{Form, Parts, object_with, made, ◌&◌, needs, may_be, list, text, one_word}
-use Rattle.bridge_read.specs.Words.{doc_text, every_doc, display_text, every_display}
+use Rattle.bridge_read.specs.Words.{doc_words, display_words}
 use Rattle.bridge_read.specs.forms.Attrs.{condition, attrs, no_attrs}
 
 abbrev pub block_of : DiplomatBackendAttrCfg → List ℕ → DocBlock
@@ -20,10 +20,10 @@ unfoldable pub block : Form DocBlock
 block = object_with (made block_of & needs key.Condition condition & needs key.Lines text)
 
 unfoldable pub doc_kind : Form DocType
-doc_kind = one_word doc_text every_doc
+doc_kind = one_word doc_words
 
 unfoldable pub display : Form RustLinkDisplay
-display = one_word display_text every_display
+display = one_word display_words
 
 abbrev pub link_of : List (List ℕ) → DocType → RustLinkDisplay → RustLink
 link_of path kind shown = record { path = path; typ = kind; display = shown }

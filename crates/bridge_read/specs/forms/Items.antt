@@ -15,7 +15,7 @@ use Rattle.bridge_read.specs.declared.keys.Key.TheVariants as key
 use Rattle.bridge_read.specs.declared.words.ItemKind.{ItemKind}
 use Rattle.bridge_read.specs.declared.words.ItemKind.TheVariants as kind
 use Rattle.bridge_read.specs.Form.{Form, Parts, object_with, made, ◌&◌, needs, may_be, may_have, skips, grouped, chosen_by, list, text, flag, integer, one_word}
-use Rattle.bridge_read.specs.Words.{item_kind_text, every_item_kind}
+use Rattle.bridge_read.specs.Words.{item_kind_words}
 use Rattle.bridge_read.specs.forms.Docs.{documented}
 use Rattle.bridge_read.specs.forms.Lifetimes.{node, mutability}
 use Rattle.bridge_read.specs.forms.Methods.{method, trait_method, signature, or_else}
@@ -85,4 +85,4 @@ parts_of kind.Function = function_parts
 
 -- an item: its kind is read before anything else
 unfoldable pub item_form : Form Item
-item_form = chosen_by key.Kind (one_word item_kind_text every_item_kind) (λ of_kind. object_with (parts_of of_kind))
+item_form = chosen_by key.Kind (one_word item_kind_words) (λ of_kind. object_with (parts_of of_kind))

@@ -1,5 +1,5 @@
 -- What an input says besides declarations: the backend, the configuration, and where documentation lies.
-use Rattle.std.specs.Prelude.{ℕ, List, [], ◌∷◌, Bool, false, Option, None}
+use Rattle.std.specs.Prelude.{ℕ, List, [], ◌∷◌, map, Bool, false, Option, None}
 use Rattle.std.specs.BTreeMap.{insert_entry}
 use Rattle.std.specs.Cmp.Lexicographic.{slice_cmp}
 use Rattle.std.specs.Ordering.{nat_cmp}
@@ -19,8 +19,12 @@ abbrev pub turned_on : BackendAttrSupport → List SupportFlag → BackendAttrSu
 turned_on support [] = support
 turned_on support (first ∷ flags) = turned_on (with_flag support first) flags
 
+-- the flags with their names
+abbrev pub flag_words : List (List ℕ × SupportFlag)
+flag_words = map (λ flag. (flag_text flag, flag)) every_flag
+
 unfoldable pub support_flag : Form SupportFlag
-support_flag = one_word flag_text every_flag
+support_flag = one_word flag_words
 
 -- [names of flags]
 unfoldable pub supported : Form BackendAttrSupport

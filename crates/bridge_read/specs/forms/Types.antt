@@ -17,7 +17,7 @@ use Rattle.bridge_read.specs.declared.fault.Fault.{Fault}
 use Rattle.bridge_read.specs.declared.keys.Key.{Key}
 use Rattle.bridge_read.specs.declared.keys.Key.TheVariants as key
 use Rattle.bridge_read.specs.Form.{Form, Parts, object_with, made, ◌&◌, needs, may_be, may_have, refined_at, refined_at_of, refined, mapped, word_or, one_of, never, list, text, flag, find_word, one_word}
-use Rattle.bridge_read.specs.Words.{primitive_text, every_primitive, encoding_text, every_encoding}
+use Rattle.bridge_read.specs.Words.{primitive_words, encoding_words}
 use Rattle.bridge_read.specs.forms.Lifetimes.{lifetime, path, mutability}
 
 -- whose spelling was used
@@ -29,7 +29,7 @@ spelling false = Diplomat
 
 -- the name of a primitive type
 abbrev pub primitive_called : List ℕ → Option PrimitiveType
-primitive_called word = find_word primitive_text every_primitive word
+primitive_called word = find_word primitive_words word
 
 -- the name of a primitive type, `ordering` or `unit`
 unfoldable pub type_called : List ℕ → Option TypeName
@@ -53,10 +53,10 @@ unfoldable pub writer : Form WriteType
 writer = refined writer_called text
 
 unfoldable pub primitive_name : Form PrimitiveType
-primitive_name = one_word primitive_text every_primitive
+primitive_name = one_word primitive_words
 
 unfoldable pub encoding : Form StringEncoding
-encoding = one_word encoding_text every_encoding
+encoding = one_word encoding_words
 
 -- ---- objects under one key
 

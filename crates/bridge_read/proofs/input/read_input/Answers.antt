@@ -68,17 +68,17 @@ returns-in_err-declared-clause-uncut c = nothing_is_cut
 pub returns-in_err-env-clause-only : goal.returns-in_err-env-clause-only
 returns-in_err-env-clause-only c =
     let p = err_from_is_err_and c.from_residual-in_err-env.result c.from_residual-in_err-env.ensures.1 in
-    rw (p.1, p.2) (env_only c.args.bytes.now (view c.in_ok-value.value) c.in_ok-value.ensures.ok c.in_ok-declared.declared c.in_ok-declared.ensures c.in_err-env.field-0.0 c.in_err-env.ensures)
+    rw (p.1, p.2) (env_only c.args.bytes.now (view c.in_ok-value.value) c.in_ok-value.ensures.ok c.in_ok-declared.declared c.in_ok-declared.ensures c.in_err-env.field-0.0 (c.in_err-env.ensures (view c.in_ok-value.value) c.in_ok-value.ensures.ok))
 
 pub returns-in_err-env-clause-told : goal.returns-in_err-env-clause-told
 returns-in_err-env-clause-told c =
     let p = err_from_is_err_and c.from_residual-in_err-env.result c.from_residual-in_err-env.ensures.1 in
-    rw (p.1, p.2) (env_is_told c.args.bytes.now (view c.in_ok-value.value) c.in_ok-value.ensures.ok c.in_ok-declared.declared c.in_ok-declared.ensures c.in_err-env.field-0.0 c.in_err-env.ensures)
+    rw (p.1, p.2) (env_is_told c.args.bytes.now (view c.in_ok-value.value) c.in_ok-value.ensures.ok c.in_ok-declared.declared c.in_ok-declared.ensures c.in_err-env.field-0.0 (c.in_err-env.ensures (view c.in_ok-value.value) c.in_ok-value.ensures.ok))
 
 pub returns-in_err-env-clause-refused : goal.returns-in_err-env-clause-refused
 returns-in_err-env-clause-refused c =
     let p = err_from_is_err_and c.from_residual-in_err-env.result c.from_residual-in_err-env.ensures.1 in
-    rw (p.1, p.2) (env_refuses c.args.bytes.now (view c.in_ok-value.value) c.in_ok-value.ensures.ok c.in_ok-declared.declared c.in_ok-declared.ensures c.in_err-env.field-0.0 c.in_err-env.ensures)
+    rw (p.1, p.2) (env_refuses c.args.bytes.now (view c.in_ok-value.value) c.in_ok-value.ensures.ok c.in_ok-declared.declared c.in_ok-declared.ensures c.in_err-env.field-0.0 (c.in_err-env.ensures (view c.in_ok-value.value) c.in_ok-value.ensures.ok))
 
 pub returns-in_err-env-clause-once : goal.returns-in_err-env-clause-once
 returns-in_err-env-clause-once c = spelled_once c.args.bytes.now
@@ -103,11 +103,11 @@ returns-in_err-env-clause-uncut c = nothing_is_cut
 
 pub returns-clause-spelled : goal.returns-clause-spelled
 returns-clause-spelled c =
-    read_spelled c.args.bytes.now (view c.in_ok-value.value) c.in_ok-value.ensures.ok c.in_ok-declared.declared c.in_ok-declared.ensures c.in_ok-env.env c.in_ok-env.ensures.0 c.in_ok-env.ensures.1
+    read_spelled c.args.bytes.now (view c.in_ok-value.value) c.in_ok-value.ensures.ok c.in_ok-declared.declared c.in_ok-declared.ensures c.in_ok-env.env (c.in_ok-env.ensures (view c.in_ok-value.value) c.in_ok-value.ensures.ok).0 (c.in_ok-env.ensures (view c.in_ok-value.value) c.in_ok-value.ensures.ok).1
 
 pub returns-clause-only : goal.returns-clause-only
 returns-clause-only c =
-    read_only c.args.bytes.now (view c.in_ok-value.value) c.in_ok-value.ensures.ok c.in_ok-declared.declared c.in_ok-declared.ensures c.in_ok-env.env c.in_ok-env.ensures.0
+    read_only c.args.bytes.now (view c.in_ok-value.value) c.in_ok-value.ensures.ok c.in_ok-declared.declared c.in_ok-declared.ensures c.in_ok-env.env (c.in_ok-env.ensures (view c.in_ok-value.value) c.in_ok-value.ensures.ok).0
 
 pub returns-clause-once : goal.returns-clause-once
 returns-clause-once c = spelled_once c.args.bytes.now

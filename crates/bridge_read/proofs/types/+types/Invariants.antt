@@ -1,7 +1,9 @@
-use Rattle.std.proofs.Common.{◌≡◌, ◌+◌, ◌*◌, take, Ok}
+use Rattle.std.proofs.Common.{◌≡◌, ◌+◌, ◌*◌}
 use Rattle.serde_json.specs.View.{items_view}
+use Rattle.std.specs.Vec.Iter.{into_iter_items}
 use Rattle.bridge_read.specs.Reading.{each_of}
 use Rattle.bridge_read.specs.forms.Types.{type_within}
+use Rattle.bridge_read.proofs.ListLemmas.{each_after}
 use Rattle.bridge_read.proofs.types.+types.Given as goal
 
 abbrev pub decreases-type_within : goal.decreases-type_within
@@ -31,5 +33,11 @@ decreases-custom_slice l = 8 * l.levels + 3
 abbrev pub decreases-type_under : goal.decreases-type_under
 decreases-type_under l = 8 * l.levels + 4
 
-abbrev pub invariant-type_list-loop-number : goal.invariant-type_list-loop-number
-invariant-type_list-loop-number l = each_of (type_within l.levels).read 0 (items_view (take l.number l.entries)) ≡ Ok l.list
+abbrev pub decreases-types_under : goal.decreases-types_under
+decreases-types_under l = 8 * l.levels + 2
+
+abbrev pub decreases-type_or_unit : goal.decreases-type_or_unit
+decreases-type_or_unit l = 8 * l.levels + 2
+
+abbrev pub invariant-type_list-loop-entry : goal.invariant-type_list-loop-entry
+invariant-type_list-loop-entry l = each_after (type_within l.levels).read l.list (items_view (into_iter_items l.entry-iterator)) ≡ each_of (type_within l.levels).read 0 (items_view (into_iter_items l.initial.entry-iterator))

@@ -1,6 +1,7 @@
 use Rattle.std.proofs.Common.{◌≡◌, take, None}
 use Rattle.bridge_read.specs.Form.{find_word}
+use Rattle.bridge_read.specs.inside.Tables.{all_written}
 use Rattle.bridge_read.proofs.words.find_word.Given as goal
 
-abbrev pub invariant-loop-value : goal.invariant-loop-value
-invariant-loop-value g l = find_word g.W.Word.written (take l.value-index l.value-items) l.word ≡ None
+abbrev pub invariant-loop-word : goal.invariant-loop-word
+invariant-loop-word g l = find_word (all_written (take l.word-index l.word-items)) l.name ≡ None

@@ -1,0 +1,16 @@
+use Rattle.std.proofs.lemmas.Result.{err_from_is_err_and}
+use Rattle.serde_json.specs.View.{view}
+use Rattle.bridge_read.specs.forms.Docs.{documented}
+use Rattle.bridge_read.specs.forms.Methods.{method, method_head, signature}
+use Rattle.bridge_read.proofs.ListLemmas.{stops_on}
+use Rattle.bridge_read.proofs.methods.MethodFromForm.from_form.Goals as goal
+
+pub returns-in_err-docs : goal.returns-in_err-docs
+unfolding method method_head signature documented
+returns-in_err-docs c =
+    let p = err_from_is_err_and c.from_residual-in_err-docs.result c.from_residual-in_err-docs.ensures.1 in
+    let opens = c.in_ok-left.ensures in
+    let head = c.in_ok-head.ensures _ (view c.args.value) opens.1 in
+    let signed = c.in_ok-signature.ensures _ (view c.args.value) head.1 in
+    let stops = c.in_err-docs.ensures _ (view c.args.value) signed.1 in
+    rw (p.1, p.2, opens.0, head.0, signed.0) (stops_on c.in_err-docs.field-0.0 _ _ stops)
