@@ -15,9 +15,10 @@ use Rattle.bridge_read.specs.declared.keys.Key.{Key}
 use Rattle.bridge_read.specs.declared.fields.Place.{Place}
 use Rattle.bridge_read.specs.declared.fault.Fault.{Fault}
 use Rattle.bridge_read.specs.Keys.{key_text}
-use Rattle.bridge_read.specs.inside.Left.{Slots, all_seen, seen, place_of, put, filled, or_unknown, empties, are_apart}
+use Rattle.bridge_read.specs.inside.Left.{Slots, all_seen, seen, place_of, put, put_all, or_unknown, empties, are_apart}
 use Rattle.bridge_read.specs.Form.{members_in}
-use Rattle.bridge_read.specs.Reading.{◌>>=◌, is_one_of, known, not_null, only, Stops, under, unless_known}
+use Rattle.bridge_read.specs.Reading.{◌>>=◌, is_one_of, known, not_null, only, under, unless_known}
+use Rattle.bridge_read.specs.inside.Given.{Stops}
 use Rattle.bridge_read.specs.declared.fault.ReadFault.{ReadFault}
 use Rattle.bridge_read.specs.declared.fault.ReadFault.TheVariants.{Bad, NoMemory}
 
@@ -136,12 +137,12 @@ put_here true g k keys text x at apart others =
     rw at (ap (λ slots. (k, x) ∷ slots) (sym (untouched g keys text x (rw (← same) apart))))
 put_here false g k keys text x at apart others = rw at (ap (λ slots. (k, g k) ∷ slots) others)
 
-put_all : (g : Key → Option Data) (keys : List Key) (text : List ℕ) (x : Option Data) → are_apart keys ≡ true → put text x (slots_of g keys) ≡ slots_of (λ k. if bytes_eq (key_text k) text then x else g k) keys
+put_everywhere : (g : Key → Option Data) (keys : List Key) (text : List ℕ) (x : Option Data) → are_apart keys ≡ true → put text x (slots_of g keys) ≡ slots_of (λ k. if bytes_eq (key_text k) text then x else g k) keys
 unfolding are_apart
-put_all g [] text x apart = refl
-put_all g (k ∷ keys) text x apart =
+put_everywhere g [] text x apart = refl
+put_everywhere g (k ∷ keys) text x apart =
     let h = both (not (is_one_of keys (key_text k))) (are_apart keys) apart in
-    put_here (bytes_eq (key_text k) text) g k keys text x refl (none_of (is_one_of keys (key_text k)) h.0) (put_all g keys text x h.1)
+    put_here (bytes_eq (key_text k) text) g k keys text x refl (none_of (is_one_of keys (key_text k)) h.0) (put_everywhere g keys text x h.1)
 
 -- the members one after the other
 goes_on : (one : Bool) (text : List ℕ) (others : Result (Unit {0}) Fault) (slots : Slots) (rest : Result Slots Fault) → rest ≡ (others >>= (λ u. Ok slots))
@@ -149,10 +150,10 @@ goes_on : (one : Bool) (text : List ℕ) (others : Result (Unit {0}) Fault) (slo
 goes_on true text others slots rest e = e
 goes_on false text others slots rest e = refl
 
-fills : (g : Key → Option Data) (keys : List Key) (ms : Members) → are_apart keys ≡ true → filled (slots_of g keys) ms ≡ (known keys ms >>= (λ u. Ok (slots_of (λ k. after k (g k) ms) keys)))
+fills : (g : Key → Option Data) (keys : List Key) (ms : Members) → are_apart keys ≡ true → put_all (slots_of g keys) ms ≡ (known keys ms >>= (λ u. Ok (slots_of (λ k. after k (g k) ms) keys)))
 fills g keys no_members apart = refl
 fills g keys (member text d ms) apart =
-    known_place g keys text _ ∙ goes_on (is_one_of keys text) text (known keys ms) _ _ (rw (put_all g keys text (not_null d) apart) (fills (λ k. if bytes_eq (key_text k) text then not_null d else g k) keys ms apart))
+    known_place g keys text _ ∙ goes_on (is_one_of keys text) text (known keys ms) _ _ (rw (put_everywhere g keys text (not_null d) apart) (fills (λ k. if bytes_eq (key_text k) text then not_null d else g k) keys ms apart))
 
 -- ---- each name once
 
@@ -217,7 +218,7 @@ under_members : (ms : Members) (k : Key) → AreDistinct ms → after k None ms 
 unfolding under
 under_members ms k once = after_all k ms once
 
-all_filled : (keys : List Key) (ms : Members) → are_apart keys ≡ true → AreDistinct ms → filled (empties keys) ms ≡ (known keys ms >>= (λ u. Ok (slots_of (λ k. under k (object ms)) keys)))
+all_filled : (keys : List Key) (ms : Members) → are_apart keys ≡ true → AreDistinct ms → put_all (empties keys) ms ≡ (known keys ms >>= (λ u. Ok (slots_of (λ k. under k (object ms)) keys)))
 all_filled keys ms apart once =
     fills (λ k. None) keys ms apart ∙ rw (same_slots (λ k. after k None ms) (λ k. under k (object ms)) keys (λ k. under_members ms k once)) refl
 
@@ -239,7 +240,7 @@ not_given (Ok u) slots fault e = absurd cc
 not_given (Err other) slots fault e = cc
 
 module _ (keys : List Key) (es : List (String Global × Value)) (apart : are_apart keys ≡ true) (sorted : IsStrictlySortedBy string_cmp (keys_of es)) where
-  pub opened : (d : Data) (before found : Slots) → members_in d ≡ Ok (members_view es) → before ≡ empties keys → filled before (members_view es) ≡ Ok found
+  pub opened : (d : Data) (before found : Slots) → members_in d ≡ Ok (members_view es) → before ≡ empties keys → put_all before (members_view es) ≡ Ok found
       → (only keys d ≡ Ok tt) × (found ≡ map (λ k. (k, under k d)) keys)
   unfolding only
   opened d before found is starts e =
@@ -248,7 +249,7 @@ module _ (keys : List Key) (es : List (String Global × Value)) (apart : are_apa
       let h = given (known keys (members_view es)) (slots_of (λ k. under k (object (members_view es))) keys) found all in
       rw at h
 
-  pub refused : (d : Data) (before : Slots) (fault : ReadFault) → members_in d ≡ Ok (members_view es) → before ≡ empties keys → Stops fault (filled before (members_view es)) → Stops fault (only keys d)
+  pub refused : (d : Data) (before : Slots) (fault : ReadFault) → members_in d ≡ Ok (members_view es) → before ≡ empties keys → Stops fault (put_all before (members_view es)) → Stops fault (only keys d)
   unfolding only
   refused d before NoMemory is starts e = tt
   refused d before (Bad fault) is starts e =

@@ -1,5 +1,5 @@
 -- What reading an input answers: what is spelled, and else the first fault.
-use Rattle.std.proofs.Common.{◌≡◌, ℕ, List, [], ◌∷◌, ◌++◌, Option, Some, Result, Ok, Err, refl, sym, ap, subst, ◌∙◌, inr}
+use Rattle.std.proofs.Common.{◌≡◌, ℕ, List, [], ◌∷◌, ◌++◌, Option, Some, Result, Ok, Err, refl, sym, ap, subst, ◌∙◌, inl, inr}
 use Rattle.std.specs.Prelude.{slice_get}
 use Rattle.std.specs.List.{flat_map}
 use Rattle.serde_json.specs.Data.{Data}
@@ -18,7 +18,7 @@ use Rattle.bridge_read.specs.declared.input.Input.{Input}
 use Rattle.bridge_read.specs.declared.input.InputFault.{InputFault}
 use Rattle.bridge_read.specs.declared.input.InputFault.TheVariants.{NotDeclarations, NoMemory}
 use Rattle.bridge_read.specs.inside.Answers.{GivesForm, GivesEnv, IsNoJson}
-use Rattle.bridge_read.specs.Inputs.{IsJsonOf, SpellsInput, IsFirstFault, IsToldOf, IsReadAs, Refuses, IsToldAs, all_faults, between, declared_fault, told_in}
+use Rattle.bridge_read.specs.Inputs.{IsJsonOf, SpellsInput, IsFirstFault, IsToldOf, IsReadAs, Refuses, IsFirstOf, IsToldAs, declared_fault, faults_between, told_in}
 use Rattle.bridge_read.specs.forms.Inputs.{declared_of, whole}
 use Rattle.bridge_read.proofs.FormLaws.{Begins}
 use Rattle.bridge_read.proofs.forms.Inputs.{whole_lawful}
@@ -56,26 +56,31 @@ spelled_once bytes one other first second =
     let same = good_is (declared_by one) (declared_by other) (sym (read_of bytes first.value one first.json first) ∙ read_of bytes first.value other first.json second) in
     ap input_by same
 
+not_first : (faults : List Fault) (fault : Fault) → faults ≡ [] → slice_get faults 0 ≡ Some fault → ⊥
+not_first [] fault e first = absurd cc
+not_first (f ∷ faults) fault e first = absurd cc
+
 -- what is spelled has no fault
-pub faultless : (bytes : List ℕ) (value : Data) (input : Input) → SpellsInput bytes input → IsJsonOf bytes value → all_faults value ≡ []
-faultless bytes value input spells json =
-    let reads = read_of bytes value input json spells in
-    rw (whole_lawful.sound value (declared_by input) reads, reads, clean_from input.env (order_of_sound input.env spells.sound)) refl
+pub faultless : (bytes : List ℕ) (value : Data) (input : Input) (fault : Fault) → SpellsInput bytes input → IsJsonOf bytes value → ¬ IsFirstOf value fault
+faultless bytes value input fault spells json (inl first) = not_first (whole.faults value) fault (whole_lawful.sound value (declared_by input) (read_of bytes value input json spells)) first
+faultless bytes value input fault spells json (inr told) =
+    let same : told.declared ≡ declared_by input = good_is told.declared (declared_by input) (sym (whole_lawful.only value told.declared told.form) ∙ read_of bytes value input json spells) in
+    not_first (faults_between value told.declared) fault (rw (same, clean_from input.env (order_of_sound input.env spells.sound)) refl) told.first
 
 pub is_spelled : (bytes : List ℕ) (d : Data) (declared : Declared) → IsJsonOf bytes d → whole.read d ≡ Ok declared → AreSound declared.modules → SpellsInput bytes (input_by declared)
 is_spelled bytes d declared json reads sound = record { value = d; json = json; form = whole_lawful.found d declared reads; sound = sound }
 
 -- the first of faults that begin with one
-first_of : (fault : Fault) (faults others : List Fault) → Begins fault faults → slice_get (faults ++ others) 0 ≡ Some fault
-first_of fault faults others begins = rw begins.is refl
+first_of : (fault : Fault) (faults : List Fault) → Begins fault faults → slice_get faults 0 ≡ Some fault
+first_of fault faults begins = rw begins.is refl
 
 pub form_told : (bytes : List ℕ) (d : Data) (told : InputFault) (fault : Fault) → IsJsonOf bytes d → whole.read d ≡ Err fault → IsToldAs told fault → IsFirstFault bytes told
 form_told bytes d told fault json reads tells =
-    record { value = d; json = json; fault = fault; first = first_of fault (whole.faults d) (between d (whole.read d)) (whole_lawful.first d fault reads); tells = tells }
+    record { value = d; json = json; fault = fault; first = inl (first_of fault (whole.faults d) (whole_lawful.first d fault reads)); tells = tells }
 
-pub between_told : (bytes : List ℕ) (d : Data) (told : InputFault) (declared : Declared) (fault : Fault) → IsJsonOf bytes d → whole.read d ≡ Ok declared → slice_get (flat_map (told_in d) (faults_of declared.modules)) 0 ≡ Some fault → IsToldAs told fault → IsFirstFault bytes told
+pub between_told : (bytes : List ℕ) (d : Data) (told : InputFault) (declared : Declared) (fault : Fault) → IsJsonOf bytes d → whole.read d ≡ Ok declared → slice_get (faults_between d declared) 0 ≡ Some fault → IsToldAs told fault → IsFirstFault bytes told
 between_told bytes d told declared fault json reads first tells =
-    record { value = d; json = json; fault = fault; first = rw (whole_lawful.sound d declared reads, reads) first; tells = tells }
+    record { value = d; json = json; fault = fault; first = inr (record { declared = declared; form = whole_lawful.found d declared reads; first = first }); tells = tells }
 
 -- the first fault of modules, as one of the value that declares them
 pub first_between : (d : Data) (what : EnvFaultKind) (at : EnvPlace) (other : Option EnvPlace) (faults : List EnvFault) → slice_get faults 0 ≡ Some (Bad what at other)

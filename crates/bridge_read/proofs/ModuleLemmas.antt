@@ -7,7 +7,8 @@ use Rattle.bridge_read.specs.declared.fault.Fault.{Fault}
 use Rattle.bridge_read.specs.declared.fault.ReadFault.{ReadFault}
 use Rattle.bridge_read.specs.declared.fault.ReadFault.TheVariants.{Bad, NoMemory}
 use Rattle.bridge_read.specs.declared.keys.Key.TheVariants as key
-use Rattle.bridge_read.specs.Reading.{◌>>=◌, Stops, each_of, needed, needed_of, text_of, under}
+use Rattle.bridge_read.specs.Reading.{◌>>=◌, each_of, needed_of, text_of, under}
+use Rattle.bridge_read.specs.inside.Given.{Stops, needed}
 use Rattle.bridge_read.specs.forms.Modules.{any_text, in_a_row, name_of, or_empty}
 
 -- the modules that were read, followed by those that are read of the entries that are left

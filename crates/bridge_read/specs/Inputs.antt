@@ -57,14 +57,19 @@ abbrev pub told_in : Data → EnvFault → List Fault
 told_in d (Bad what at other) = declared_fault d what at ∷ []
 told_in d no_env_memory = []
 
--- the faults between the declarations of a value that has the form
-abbrev pub between : Data → Result Declared Fault → List Fault
-between d (Ok declared) = flat_map (told_in d) (faults_of declared.modules)
-between d (Err fault) = []
+-- the faults between the declarations that a value spells, in order
+abbrev pub faults_between : Data → Declared → List Fault
+faults_between d declared = flat_map (told_in d) (faults_of declared.modules)
 
--- all faults of a value, in order: those of its form, and after them those between declarations
-abbrev pub all_faults : Data → List Fault
-all_faults d = whole.faults d ++ between d (whole.read d)
+-- the value has the form, and the fault is the first between its declarations
+pub record IsFirstBetween (d : Data) (fault : Fault) : Type 0 where
+  pub declared : Declared
+  pub form : whole.Spells d declared
+  pub first : slice_get (faults_between d declared) 0 ≡ Some fault
+
+-- the fault is the value's first: that of its form, or, where it has the form, that between its declarations
+abbrev pub IsFirstOf : Data → Fault → Type 0
+IsFirstOf d fault = (slice_get (whole.faults d) 0 ≡ Some fault) ⊎ IsFirstBetween d fault
 
 -- ---- what is told
 
@@ -83,7 +88,7 @@ pub record IsFirstFault (bytes : List ℕ) (told : InputFault) : Type 0 where
   pub value : Data
   pub json : IsJsonOf bytes value
   pub fault : Fault
-  pub first : slice_get (all_faults value) 0 ≡ Some fault
+  pub first : IsFirstOf value fault
   pub tells : IsToldAs told fault
 
 -- what is told of bytes that spell no input

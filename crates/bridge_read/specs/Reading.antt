@@ -31,19 +31,6 @@ abbrev pub ◌>>=◌ : {A B : Type 0} → Result A Fault → (A → Result B Fau
 (Ok x) >>= f = f x
 (Err fault) >>= f = Err fault
 
--- a reader answers so, unless memory ran out
-abbrev pub Stops : {A : Type 0} → ReadFault → Result A Fault → Type 0
-Stops (Bad fault) read = read ≡ Err fault
-Stops NoMemory read = Unit {0}
-
-abbrev pub GivesBy : {X A : Type 0} → (X → A) → Result X ReadFault → Result A Fault → Type 0
-GivesBy view (Ok x) read = read ≡ Ok (view x)
-GivesBy view (Err fault) read = Stops fault read
-
-abbrev pub Gives : {A : Type 0} → Result A ReadFault → Result A Fault → Type 0
-Gives (Ok x) read = read ≡ Ok x
-Gives (Err fault) read = Stops fault read
-
 -- a value that isn't null
 abbrev pub not_null : Data → Option Data
 not_null null = None
@@ -66,9 +53,6 @@ abbrev pub needed_of : {A : Type 0} → (Data → Result A Fault) → Key → Op
 needed_of read key None = Err (here kind.MissingKey)
 needed_of read key (Some d) = inside (at_key key) (read d)
 
-abbrev pub needed : {A : Type 0} → (Data → Result A Fault) → Key → Data → Result A Fault
-needed read key d = needed_of read key (under key d)
-
 abbrev pub option_ok : {A : Type 0} → Result A Fault → Result (Option A) Fault
 option_ok (Ok x) = Ok (Some x)
 option_ok (Err fault) = Err fault
@@ -77,15 +61,9 @@ abbrev pub optional_of : {A : Type 0} → (Data → Result A Fault) → Key → 
 optional_of read key None = Ok None
 optional_of read key (Some d) = option_ok (inside (at_key key) (read d))
 
-abbrev pub optional : {A : Type 0} → (Data → Result A Fault) → Key → Data → Result (Option A) Fault
-optional read key d = optional_of read key (under key d)
-
 abbrev pub held_of : {A : Type 0} → A → (Data → Result A Fault) → Key → Option Data → Result A Fault
 held_of absent read key None = Ok absent
 held_of absent read key (Some d) = inside (at_key key) (read d)
-
-abbrev pub held : {A : Type 0} → A → (Data → Result A Fault) → Key → Data → Result A Fault
-held absent read key d = held_of absent read key (under key d)
 
 -- ---- lists
 
@@ -176,9 +154,6 @@ refined_of test read d = read d >>= (λ x. or_wrong_at [] (test x))
 abbrev pub not_empty : {A : Type 0} → List A → Option (List A)
 not_empty [] = None
 not_empty (x ∷ xs) = Some (x ∷ xs)
-
-abbrev pub some_of : {A : Type 0} → (Data → Result (List A) Fault) → Data → Result (List A) Fault
-some_of read = refined_of not_empty read
 
 -- a whole number below 256
 abbrev pub below_256 : ℕ → Option ℕ

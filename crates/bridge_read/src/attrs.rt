@@ -3,7 +3,8 @@
 ghost use Rattle.std.specs.Prelude.{◌≡◌, None, Some};
 ghost use Rattle.std.specs.Str.{all_ascii_digits};
 ghost use Rattle.serde_json.specs.View.{view};
-ghost use Rattle.bridge_read.specs.Reading.{Gives, list_of};
+ghost use Rattle.bridge_read.specs.Reading.{list_of};
+ghost use Rattle.bridge_read.specs.inside.Given.{Gives};
 ghost use Rattle.bridge_read.specs.forms.Attrs.{condition_called, condition_keys, condition_under, condition_within, condition_word, argument_of, digits, literal_called, literal_keys, literal_under, literal_word, no_attrs, sole_char};
 
 use crate::fault::ReadFault;

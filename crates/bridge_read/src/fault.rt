@@ -79,7 +79,8 @@ impl Fault {
 
     /// The fault of a key that an object doesn't have.
     pub fn unknown_key(alloc: Global, name: &str) -> Result<Fault, NoMemory>
-        ensures { IfOk result (λ fault. fault ≡ within (step.Member name.now) (here InputKind.UnknownKey)) }
+        ensures { IfOk result
+            (λ fault. fault ≡ within (step.Member name.now) (here InputKind.UnknownKey)) }
     {
         Fault::here(alloc, InputKind::UnknownKey).within(Step::Member(Text::new(alloc, name)?))
     }

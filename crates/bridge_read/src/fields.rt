@@ -8,8 +8,9 @@ ghost use Rattle.serde_json.specs.Data.{Data};
 ghost use Rattle.serde_json.specs.View.{view, members_view};
 ghost use Rattle.bridge_read.specs.declared.keys.Key.{Key as Name};
 ghost use Rattle.bridge_read.specs.Form.{live, sole};
-ghost use Rattle.bridge_read.specs.Reading.{Gives, GivesBy, flag_of, held, held_of, list_of, needed, needed_of, not_null, optional, optional_of, some_of, under};
-ghost use Rattle.bridge_read.specs.inside.Left.{IsLeft, Opens, Takes, all_seen, are_apart, empties, filled, live_in, place_of, put, seen};
+ghost use Rattle.bridge_read.specs.Reading.{flag_of, held_of, list_of, needed_of, not_null, optional_of, under};
+ghost use Rattle.bridge_read.specs.inside.Given.{Gives, GivesBy, held, needed, optional, some_of};
+ghost use Rattle.bridge_read.specs.inside.Left.{IsLeft, Opens, Takes, all_seen, are_apart, empties, put_all, live_in, place_of, put, seen};
 
 use crate::fault::{Fault, ReadFault};
 use crate::keys::Key;
@@ -79,7 +80,7 @@ impl Fields {
         ensures { Opens result keys.now (view value) }
     {
         let members = members(alloc, value)?;
-        let places = filled(alloc, empty(alloc, keys)?, members)?;
+        let places = put_all(alloc, empty(alloc, keys)?, members)?;
         Ok(Fields {
             places: places.into_iter(),
         })
@@ -227,13 +228,13 @@ fn put(places: &mut [Place], number: usize, value: Value)
 
 /// The members in their places; the fault of the first that has none.
 #[tactic(auto, using(crate::proofs::FieldLemmas::place_within))]
-fn filled(
+fn put_all(
     alloc: Global,
     mut places: Vec<Place>,
     members: Map<String, Value>,
 ) -> Result<Vec<Place>, ReadFault>
-    ensures filled { GivesBy (λ filled. all_seen filled.items) result
-        (filled (all_seen places.items) (members_view members.entries)) }
+    ensures put { GivesBy (λ found. all_seen found.items) result
+        (put_all (all_seen places.items) (members_view members.entries)) }
     ensures ordered { IsStrictlySortedBy string_cmp (keys members) }
 {
     for (name, value) in members {

@@ -6,12 +6,13 @@ ghost use Rattle.serde_json.specs.Data.{Data};
 ghost use Rattle.serde_json.specs.View.{view};
 ghost use Rattle.bridge_ast.specs.EnvFaults.{faults_of};
 ghost use Rattle.bridge_decl.specs.declared.modules.Module.{Module as Declarations};
+ghost use Rattle.bridge_read.specs.declared.fault.Fault.{Fault as Wrong};
 ghost use Rattle.bridge_read.specs.declared.input.Declared.{Declared as Spelled};
 ghost use Rattle.bridge_read.specs.declared.pointer.Step.{Step as Way};
 ghost use Rattle.bridge_read.specs.declared.input.Input.{Input as Given};
 ghost use Rattle.bridge_read.specs.declared.input.InputFault.TheVariants.{NoMemory as no_memory};
 ghost use Rattle.bridge_read.specs.Agree.{CutsNothing};
-ghost use Rattle.bridge_read.specs.Inputs.{IsJsonOf, IsReadAs, IsToldOf, Refuses, SpellsInput, IsToldAs, all_faults, declared_fault, kind_of};
+ghost use Rattle.bridge_read.specs.Inputs.{IsJsonOf, IsReadAs, IsToldOf, Refuses, SpellsInput, IsFirstOf, IsToldAs, declared_fault, kind_of};
 ghost use Rattle.bridge_read.specs.ModulePlaces.{LeadsTo};
 ghost use Rattle.bridge_read.specs.Parents.{LacksParent};
 ghost use Rattle.bridge_read.specs.Pointers.{module_pointers};
@@ -197,8 +198,8 @@ pub fn read_input(alloc: Global, bytes: &[u8]) -> Result<Input, InputFault>
     ensures told { IfErr result (λ fault. IsToldOf bytes.now fault) }
     // Bytes are refused only where they spell no input, and those that spell one have no fault.
     ensures refused { IfErr result (λ fault. Refuses bytes.now fault) }
-    ensures faultless { (value : Data) (input : Given) → SpellsInput bytes.now input
-        → IsJsonOf bytes.now value → all_faults value ≡ [] }
+    ensures faultless { (value : Data) (input : Given) (fault : Wrong) → SpellsInput bytes.now input
+        → IsJsonOf bytes.now value → ¬ IsFirstOf value fault }
     // Each module that a value declares has its pointer, which leads to the object that spells it.
     ensures counted { (value : Data) (declared : Spelled) → whole.Spells value declared
         → length declared.modules ≡ length (module_pointers value) }

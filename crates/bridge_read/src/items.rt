@@ -3,7 +3,7 @@
 ghost use Rattle.std.specs.Prelude.{◌≡◌};
 ghost use Rattle.serde_json.specs.View.{view};
 ghost use Rattle.bridge_read.specs.Form.{object_with, one_word};
-ghost use Rattle.bridge_read.specs.Reading.{Gives, needed};
+ghost use Rattle.bridge_read.specs.inside.Given.{Gives, needed};
 ghost use Rattle.bridge_read.specs.Words.{item_kind_words};
 ghost use Rattle.bridge_read.specs.forms.Items.{struct_parts, opaque_parts, enum_parts, trait_parts, function_parts};
 

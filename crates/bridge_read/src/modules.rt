@@ -5,10 +5,10 @@ ghost use Rattle.serde_json.specs.Data.{Data};
 ghost use Rattle.serde_json.specs.View.{view};
 ghost use Rattle.bridge_read.specs.declared.keys.Key.{Key as Name};
 ghost use Rattle.bridge_read.specs.Form.{object_with, read_alone};
-ghost use Rattle.bridge_read.specs.Reading.{Gives, held};
+ghost use Rattle.bridge_read.specs.inside.Given.{Gives, held};
 ghost use Rattle.bridge_read.specs.forms.Modules.{contents, module_of, module_parts, module_within, nested_in, root};
 ghost use Rattle.bridge_read.specs.inside.Left.{IsLeft, Takes};
-ghost use Rattle.bridge_read.specs.inside.Names.{IsNamed};
+ghost use Rattle.bridge_read.specs.inside.Names.{NamesModule};
 
 use crate::attrs::no_attrs;
 use crate::fault::ReadFault;
@@ -65,7 +65,7 @@ fn contents_in(alloc: Global, left: &mut Fields) -> Result<Contents, ReadFault>
 #[tactic(auto, using(crate::proofs::ModuleLemmas::named, crate::proofs::ModuleLemmas::not_named))]
 fn module_name(alloc: Global, left: &mut Fields) -> Result<Text, ReadFault>
     ensures { (keys : List Name) (d : Data) → IsLeft left.old (Key.Name ∷ keys) d
-        → IsNamed result left.new keys d }
+        → NamesModule result left.new keys d }
 {
     left.needed(alloc)
 }

@@ -5,7 +5,8 @@ ghost use Rattle.serde_json.specs.View.{view, members_view};
 ghost use Rattle.bridge_read.specs.declared.fault.Fault.{Fault as Wrong};
 ghost use Rattle.bridge_read.specs.declared.pointer.Step.TheVariants as step;
 ghost use Rattle.bridge_read.specs.Form.{members_in, object_of};
-ghost use Rattle.bridge_read.specs.Reading.{Gives, GivesBy, at_key, inside, under};
+ghost use Rattle.bridge_read.specs.Reading.{at_key, inside, under};
+ghost use Rattle.bridge_read.specs.inside.Given.{Gives, GivesBy};
 
 use crate::fault::ReadFault;
 use crate::keys::Key;
@@ -31,7 +32,8 @@ pub fn in_member_named<T: Drop>(
     name: &str,
     read: Result<T, ReadFault>,
 ) -> Result<T, ReadFault>
-    ensures { (was : Result T Wrong) → Gives read was → Gives result (inside (step.Member name.now) was) }
+    ensures { (was : Result T Wrong) → Gives read was
+        → Gives result (inside (step.Member name.now) was) }
 {
     match read {
         Ok(value) => Ok(value),
@@ -56,7 +58,8 @@ pub fn in_member<T: Drop>(
 
 /// What was read of an entry of a list, or its fault as one of the list.
 pub fn in_entry<T: Drop>(number: usize, read: Result<T, ReadFault>) -> Result<T, ReadFault>
-    ensures { (was : Result T Wrong) → Gives read was → Gives result (inside (step.Index number) was) }
+    ensures { (was : Result T Wrong) → Gives read was
+        → Gives result (inside (step.Index number) was) }
 {
     match read {
         Ok(value) => Ok(value),

@@ -56,7 +56,8 @@ fn module_within(
     levels: usize,
     number: usize,
 ) -> Result<Search, NoMemory>
-    ensures { IfOk result (λ search. Searches (modules_within levels (view value.now)) number search) }
+    ensures { IfOk result (λ search.
+        Searches (modules_within levels (view value.now)) number search) }
 {
     let Some(inner) = levels.checked_sub(1) else {
         return Ok(Search::Left(number));
@@ -81,7 +82,8 @@ fn module_in(
     levels: usize,
     number: usize,
 ) -> Result<Search, NoMemory>
-    ensures { IfOk result (λ search. Searches (in_entries (modules_within levels) 0 (items_view list.now)) number search) }
+    ensures { IfOk result (λ search.
+        Searches (in_entries (modules_within levels) 0 (items_view list.now)) number search) }
 {
     let mut left = number;
     for (place, entry) in list.iter().enumerate() {
@@ -97,7 +99,8 @@ fn module_in(
 
 /// The pointer of the module of a number; that of the whole where there is no such module.
 fn module_pointer(alloc: Global, value: &Value, number: usize) -> Result<Pointer, NoMemory>
-    ensures { IfOk result (λ pointer. pointer ≡ slice_index_or (module_pointers (view value.now)) number []) }
+    ensures { IfOk result (λ pointer.
+        pointer ≡ slice_index_or (module_pointers (view value.now)) number []) }
 {
     let Some(root) = under(value, Key::Root) else {
         return Ok(Pointer::here(alloc));

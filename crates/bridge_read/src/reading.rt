@@ -3,7 +3,8 @@
 ghost use Rattle.std.specs.Prelude.{◌≡◌, [], IfOk, string_bytes};
 ghost use Rattle.serde_json.specs.View.{view, items_view};
 ghost use Rattle.bridge_read.specs.Form.{two_of};
-ghost use Rattle.bridge_read.specs.Reading.{Gives, GivesBy, entries_of, list_of, some_of, text_of};
+ghost use Rattle.bridge_read.specs.Reading.{entries_of, list_of, text_of};
+ghost use Rattle.bridge_read.specs.inside.Given.{Gives, GivesBy, some_of};
 
 use crate::fault::ReadFault;
 use crate::objects::in_entry;

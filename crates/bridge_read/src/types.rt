@@ -4,9 +4,11 @@ ghost use Rattle.std.specs.Prelude.{◌≡◌, [], ◌∷◌, List};
 ghost use Rattle.serde_json.specs.Data.{Data};
 ghost use Rattle.serde_json.specs.View.{view};
 ghost use Rattle.bridge_read.specs.declared.keys.Key.{Key as Name};
-ghost use Rattle.bridge_read.specs.Reading.{Gives, held, list_of, needed};
+ghost use Rattle.bridge_read.specs.Form.{refined_at_of};
+ghost use Rattle.bridge_read.specs.Reading.{list_of};
+ghost use Rattle.bridge_read.specs.inside.Given.{Gives, held, needed};
 ghost use Rattle.bridge_read.specs.inside.Left.{IsLeft, Takes};
-ghost use Rattle.bridge_read.specs.forms.Types.{borrow_read, spelling, type_called, type_word, type_keys, type_under, type_within, written_primitive, writer_called, reference_type, result_type, custom_slice, callback, str_slice, str_list, primitive_slice};
+ghost use Rattle.bridge_read.specs.forms.Types.{borrow_of, spelling, type_called, type_word, type_keys, type_under, type_within, written_primitive, writer_called, reference_type, result_type, custom_slice, callback, str_slice, str_list, primitive_slice, written_borrow};
 
 use crate::fault::{Fault, InputKind, ReadFault};
 use crate::fields::{Fields, Place};
@@ -125,7 +127,7 @@ fn str_list(alloc: Global, value: Value) -> Result<TypeName, ReadFault>
 fn borrow(alloc: Global, left: &mut Fields) -> Result<Option<(Lifetime, Mutability)>, ReadFault>
     ensures { (keys : List Name) (d : Data)
         → IsLeft left.old (Key.Lifetime ∷ Key.Mutable ∷ keys) d
-        → Takes result (borrow_read d) left.new keys d }
+        → Takes result (refined_at_of Key.Mutable borrow_of written_borrow d) left.new keys d }
 {
     let lifetime = left.optional(alloc)?;
     let mutable = left.flag(alloc)?;

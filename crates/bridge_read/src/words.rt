@@ -3,7 +3,7 @@
 ghost use Rattle.std.specs.Prelude.{◌≡◌, [], ◌∷◌};
 ghost use Rattle.serde_json.specs.View.{view};
 ghost use Rattle.bridge_read.specs.Form.{find_word, one_word};
-ghost use Rattle.bridge_read.specs.Reading.{Gives};
+ghost use Rattle.bridge_read.specs.inside.Given.{Gives};
 
 use crate::fault::ReadFault;
 use crate::reading::{FromForm, text};

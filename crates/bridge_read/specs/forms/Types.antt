@@ -86,9 +86,6 @@ both_of of mutable = (of, mutable)
 unfoldable pub written_borrow : Parts (Option Lifetime × Bool)
 written_borrow = made both_of & may_have key.Lifetime lifetime & may_be key.Mutable flag false
 
-abbrev pub borrow_read : Data → Result (Option (Lifetime × Mutability)) Fault
-borrow_read = refined_at_of key.Mutable borrow_of written_borrow
-
 unfoldable pub borrow : Parts (Option (Lifetime × Mutability))
 borrow = refined_at key.Mutable borrow_of written_borrow
 

@@ -13,7 +13,8 @@ use Rattle.bridge_read.specs.declared.keys.Key.{Key}
 use Rattle.bridge_read.specs.declared.pointer.Step.TheVariants as step
 use Rattle.bridge_read.specs.Form.{add_live}
 use Rattle.bridge_read.specs.Keys.{key_text}
-use Rattle.bridge_read.specs.Reading.{Stops, here, within, is_one_of, not_null, under, only}
+use Rattle.bridge_read.specs.Reading.{here, within, is_one_of, not_null, under, only}
+use Rattle.bridge_read.specs.inside.Given.{Stops}
 
 -- keys, each with what stands under it
 abbrev pub Slots : Type 0
@@ -61,9 +62,9 @@ or_unknown (Some n) text others = others
 or_unknown None text others = Err (within (step.Member text) (here kind.UnknownKey))
 
 -- the members put one after the other, up to the first that has no place
-abbrev pub filled : Slots → Members → Result Slots Fault
-filled slots no_members = Ok slots
-filled slots (member text d ms) = or_unknown (place_of text slots) text (filled (put text (not_null d) slots) ms)
+abbrev pub put_all : Slots → Members → Result Slots Fault
+put_all slots no_members = Ok slots
+put_all slots (member text d ms) = or_unknown (place_of text slots) text (put_all (put text (not_null d) slots) ms)
 
 -- nothing in any place
 abbrev pub empties : List Key → Slots

@@ -5,11 +5,11 @@ use Rattle.bridge_read.specs.declared.fault.ReadFault.{ReadFault}
 use Rattle.bridge_read.specs.declared.fields.Fields.{Fields}
 use Rattle.bridge_read.specs.declared.keys.Key.{Key}
 use Rattle.bridge_read.specs.declared.keys.Key.TheVariants as key
-use Rattle.bridge_read.specs.Reading.{Stops, needed}
+use Rattle.bridge_read.specs.inside.Given.{Stops, needed}
 use Rattle.bridge_read.specs.forms.Modules.{any_text, name_of}
 use Rattle.bridge_read.specs.inside.Left.{IsLeft}
 
 -- a text stands under the name, which is it, and the other keys are left after it
-abbrev pub IsNamed : Result (List ℕ) ReadFault → Fields → List Key → Data → Type 0
-IsNamed (Ok name) left keys d = (needed any_text.read key.Name d ≡ Ok tt) × (name ≡ name_of d) × IsLeft left keys d
-IsNamed (Err fault) left keys d = Stops fault (needed any_text.read key.Name d)
+abbrev pub NamesModule : Result (List ℕ) ReadFault → Fields → List Key → Data → Type 0
+NamesModule (Ok name) left keys d = (needed any_text.read key.Name d ≡ Ok tt) × (name ≡ name_of d) × IsLeft left keys d
+NamesModule (Err fault) left keys d = Stops fault (needed any_text.read key.Name d)
