@@ -33,8 +33,10 @@ fn missing_bound(env: &LifetimeEnv, held: &[bool]) -> Option<Lifetime>
     requires { length held.now ≡ env.now.count }
     ensures within { IfSome result (λ l. l < env.now.count) }
     ensures missing { IfSome result (λ l. slice_index_or held.now l false ≡ false) }
-    ensures bound { IfSome result (λ l. (k : ℕ) × IsTrue (slice_index_or held.now k false) × Direct (longer_of env.now) l k) }
-    ensures none { IfNone result ((k l : ℕ) → IsTrue (slice_index_or held.now k false) → Direct (longer_of env.now) l k → IsTrue (slice_index_or held.now l false)) }
+    ensures bound { IfSome result (λ l. (k : ℕ) × IsTrue (slice_index_or held.now k false)
+        × Direct (longer_of env.now) l k) }
+    ensures none { IfNone result ((k l : ℕ) → IsTrue (slice_index_or held.now k false)
+        → Direct (longer_of env.now) l k → IsTrue (slice_index_or held.now l false)) }
 {
     for lifetime in 0..env.num_lifetimes() {
         if held[lifetime] {
@@ -61,7 +63,8 @@ fn first_missing(lifetimes: &[Lifetime], held: &[bool]) -> Option<Lifetime>
     requires { (k : ℕ) → Contains lifetimes.now k → k < length held.now }
     ensures missing { IfSome result (λ l. slice_index_or held.now l false ≡ false) }
     ensures listed { IfSome result (λ l. Contains lifetimes.now l) }
-    ensures none { IfNone result ((k : ℕ) → Contains lifetimes.now k → IsTrue (slice_index_or held.now k false)) }
+    ensures none { IfNone result ((k : ℕ) → Contains lifetimes.now k
+        → IsTrue (slice_index_or held.now k false)) }
 {
     for lifetime in lifetimes {
         if !held[lifetime.index()] {

@@ -18,8 +18,12 @@ pub fn is_sound(nodes: &[BoundedLifetime], count: usize) -> bool
 
 /// Whether each bound that stands on the one side also stands on the other side at its other end.
 fn all_mirrored(nodes: &[BoundedLifetime], there: Direction, back: Direction) -> bool
-    ensures named { IsTrue result → (at l : ℕ) → Contains (followed (record { bounds = nodes.now; count = 0 }) there at) l → l < length nodes.now }
-    ensures back { IsTrue result → (at l : ℕ) → Contains (followed (record { bounds = nodes.now; count = 0 }) there at) l → Contains (followed (record { bounds = nodes.now; count = 0 }) back l) at }
+    ensures named { IsTrue result → (at l : ℕ)
+        → Contains (followed (record { bounds = nodes.now; count = 0 }) there at) l
+        → l < length nodes.now }
+    ensures back { IsTrue result → (at l : ℕ)
+        → Contains (followed (record { bounds = nodes.now; count = 0 }) there at) l
+        → Contains (followed (record { bounds = nodes.now; count = 0 }) back l) at }
 {
     for at in 0..nodes.len() {
         if !mirrored_at(nodes, there, back, at) {
@@ -32,8 +36,12 @@ fn all_mirrored(nodes: &[BoundedLifetime], there: Direction, back: Direction) ->
 /// The same for the bounds of one lifetime.
 fn mirrored_at(nodes: &[BoundedLifetime], there: Direction, back: Direction, at: usize) -> bool
     requires { at < length nodes.now }
-    ensures named { IsTrue result → (l : ℕ) → Contains (followed (record { bounds = nodes.now; count = 0 }) there at) l → l < length nodes.now }
-    ensures back { IsTrue result → (l : ℕ) → Contains (followed (record { bounds = nodes.now; count = 0 }) there at) l → Contains (followed (record { bounds = nodes.now; count = 0 }) back l) at }
+    ensures named { IsTrue result → (l : ℕ)
+        → Contains (followed (record { bounds = nodes.now; count = 0 }) there at) l
+        → l < length nodes.now }
+    ensures back { IsTrue result → (l : ℕ)
+        → Contains (followed (record { bounds = nodes.now; count = 0 }) there at) l
+        → Contains (followed (record { bounds = nodes.now; count = 0 }) back l) at }
 {
     for bound in bounds_at(nodes, there, at) {
         let other = bound.index();
