@@ -123,10 +123,10 @@ fn opaque(alloc: Global, value: Value) -> Result<Item, ReadFault>
     let nodes = left.listed(alloc)?;
     let mutable = left.flag(alloc)?;
     let methods = left.listed(alloc)?;
-    let dtor = left.optional(alloc)?;
+    let dtor_abi_name = or_name(alloc, &name, left.optional(alloc)?)?;
     let (docs, attrs) = documented(alloc, &mut left)?;
     Ok(Item::Opaque(OpaqueType {
-        dtor_abi_name: or_name(alloc, &name, dtor)?,
+        dtor_abi_name,
         name,
         lifetimes: LifetimeEnv { nodes },
         mutability: mutability(mutable),
@@ -225,11 +225,11 @@ fn function(alloc: Global, value: Value) -> Result<Item, ReadFault>
     )?;
     left.next();
     let name = left.needed(alloc)?;
-    let abi_name = left.optional(alloc)?;
+    let abi_name = or_name(alloc, &name, left.optional(alloc)?)?;
     let signature = signed(alloc, &mut left)?;
     let (docs, attrs) = documented(alloc, &mut left)?;
     Ok(Item::Function(Function {
-        abi_name: or_name(alloc, &name, abi_name)?,
+        abi_name,
         name,
         lifetimes: LifetimeEnv {
             nodes: signature.nodes,

@@ -108,11 +108,11 @@ fn method_head(alloc: Global, left: &mut Fields) -> Result<MethodHead, ReadFault
         → Takes result (read_alone method_head d) left.new keys d }
 {
     let name = left.needed(alloc)?;
-    let abi_name = left.optional(alloc)?;
+    let abi_name = or_name(alloc, &name, left.optional(alloc)?)?;
     let self_type = left.needed(alloc)?;
     let self_param = left.optional(alloc)?;
     Ok(MethodHead {
-        abi_name: or_name(alloc, &name, abi_name)?,
+        abi_name,
         name,
         self_type,
         self_param,
