@@ -1,0 +1,4 @@
+pub mod Reaching
+pub mod Surveying
+pub mod Totals
+pub mod inside

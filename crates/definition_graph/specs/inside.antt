@@ -1,0 +1,4 @@
+pub mod Rows
+pub mod SearchState
+pub mod SearchSteps
+pub mod Components
