@@ -8,9 +8,9 @@ folder=$(mktemp -d)
 trap 'rm -rf -- "$folder"' EXIT INT TERM
 
 mkdir "$folder/crates"
-sed -n -e '/^bridge_decl:/p' -e '/^hir_life:/p' "$here/../crates.txt" >"$folder/crates.txt"
-echo 'walk_times: bridge_decl hir_life smallvec sqlite_items anyhow' >>"$folder/crates.txt"
-for crate in bridge_decl hir_life; do
+sed -n -e '/^bridge_text:/p' -e '/^bridge_decl:/p' -e '/^hir_life:/p' "$here/../crates.txt" >"$folder/crates.txt"
+echo 'walk_times: bridge_text bridge_decl hir_life smallvec sqlite_items anyhow' >>"$folder/crates.txt"
+for crate in bridge_text bridge_decl hir_life; do
     mkdir "$folder/crates/$crate"
     for part in src specs proofs; do
         cp -R "$here/../crates/$crate/$part" "$folder/crates/$crate/"

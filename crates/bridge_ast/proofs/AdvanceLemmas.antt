@@ -21,7 +21,7 @@ use Rattle.bridge_ast.specs.declared.trail.Next.{Next}
 use Rattle.bridge_ast.specs.declared.trail.Next.TheVariants as next
 use Rattle.bridge_ast.specs.declared.trail.Stand.TheVariants as stand
 use Rattle.bridge_ast.specs.declared.trail.Trail.{Trail}
-use Rattle.bridge_decl.specs.NameIndex.{meaning_of}
+use Rattle.bridge_text.specs.NameIndex.{meaning_of}
 use Rattle.bridge_ast.specs.inside.AliasEnds.{IsAlias, AreEnds, KnowsEnds, AliasAdvances, TrailAdvances, alias_leads, waits_at}
 use Rattle.bridge_ast.specs.inside.Pairs.{pair_cmp}
 use Rattle.bridge_ast.specs.Each.{each_after}

@@ -11,9 +11,8 @@ use Rattle.bridge_ast.specs.declared.fault.EnvPart.{EnvPart}
 use Rattle.bridge_ast.specs.EnvFaults.{Named}
 use Rattle.bridge_ast.specs.Each.{each_after}
 use Rattle.bridge_ast.specs.inside.Fitting.{AllAfter}
-use Rattle.bridge_decl.specs.Lifetimes.{AreDistinct}
-use Rattle.bridge_decl.specs.NameIndex.{meaning_of}
-use Rattle.bridge_decl.proofs.NameIndexLemmas.{same_text, text_itself}
+use Rattle.bridge_text.specs.NameIndex.{AreDistinct, meaning_of}
+use Rattle.bridge_text.proofs.NameIndexLemmas.{same_text, text_itself}
 
 -- ---- lists
 

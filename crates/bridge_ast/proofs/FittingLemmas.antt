@@ -15,8 +15,8 @@ use Rattle.bridge_ast.specs.EnvFaults.{items_named, aliases_named, named_in, nam
 use Rattle.bridge_ast.specs.Sound.{AreSound, HasParent, HasSoundLifetimes, lifetimes_of, names_in}
 use Rattle.bridge_decl.specs.Names.{item_name}
 use Rattle.bridge_ast.specs.inside.Fitting.{AllAfter, FitsItem, FitsAlias, FitsModule, FitsUnder, FitInOrder, IsFree}
-use Rattle.bridge_decl.specs.Lifetimes.{AreDistinct, IsSoundEnvironment}
-use Rattle.bridge_decl.specs.NameIndex.{meaning_of}
+use Rattle.bridge_decl.specs.Lifetimes.{IsSoundEnvironment}
+use Rattle.bridge_text.specs.NameIndex.{AreDistinct, meaning_of}
 use Rattle.bridge_ast.proofs.NamedLemmas.{all_at, whole, in_front, free_under}
 use Rattle.bridge_ast.proofs.PathLemmas.{path_itself, parent_and_last-snoc, none_before_and_after, module_at_some, named_at_module}
 use Rattle.bridge_ast.proofs.DistinctLemmas.{after_from, each_holds, contains_at, recursion_from_All, absent_from, none_of_names, names_after, distinct_after, named_apart, distinct_left}

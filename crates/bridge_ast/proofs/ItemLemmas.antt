@@ -12,7 +12,7 @@ use Rattle.bridge_ast.specs.declared.fault.EnvPart.TheVariants as part
 use Rattle.bridge_ast.specs.Each.{each}
 use Rattle.bridge_ast.specs.EnvFaults.{IsFirst, repeats_name, lifetime_faults, method_faults, item_faults, alias_faults}
 use Rattle.bridge_ast.specs.EnvFaults.{items_named, aliases_named, nodes_of, method_nodes_of}
-use Rattle.bridge_decl.specs.NameIndex.{HasMeanings}
+use Rattle.bridge_text.specs.NameIndex.{HasMeanings}
 use Rattle.bridge_decl.specs.Names.{item_name}
 use Rattle.bridge_ast.proofs.EachLemmas.{counted_kept, counted_stopped, numbered_more, mapped}
 

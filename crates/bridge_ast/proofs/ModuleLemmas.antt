@@ -8,7 +8,7 @@ use Rattle.bridge_ast.specs.declared.fault.EnvFault.{EnvFault}
 use Rattle.bridge_ast.specs.declared.scopes.Scope.{Scope}
 use Rattle.bridge_ast.specs.Each.{each}
 use Rattle.bridge_ast.specs.EnvFaults.{IsFirst, module_at, named_in, path_faults, content_faults, module_faults, faults_of}
-use Rattle.bridge_decl.specs.NameIndex.{HasMeanings}
+use Rattle.bridge_text.specs.NameIndex.{HasMeanings}
 use Rattle.bridge_ast.specs.inside.Scopes.{IsParent, Knows, Enters}
 use Rattle.bridge_ast.proofs.EachLemmas.{each_kept, each_stopped, first_front, first_after, none_after, length_front}
 use Rattle.bridge_ast.proofs.ScopeLemmas.{knows_more}

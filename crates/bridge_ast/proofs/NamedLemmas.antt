@@ -9,7 +9,7 @@ use Rattle.bridge_decl.specs.declared.modules.Item.{Item}
 use Rattle.bridge_decl.specs.declared.modules.Module.{Module}
 use Rattle.bridge_ast.specs.declared.fault.EnvPart.{EnvPart}
 use Rattle.bridge_ast.specs.declared.fault.EnvPart.TheVariants as part
-use Rattle.bridge_decl.specs.NameIndex.{meaning_of}
+use Rattle.bridge_text.specs.NameIndex.{meaning_of}
 use Rattle.bridge_ast.specs.Each.{each_after}
 use Rattle.bridge_ast.specs.EnvFaults.{Named, module_at, named_at, named_in, items_named, aliases_named, parent_and_last}
 use Rattle.bridge_decl.specs.Names.{item_name}
@@ -19,7 +19,7 @@ use Rattle.bridge_ast.specs.inside.Scopes.{ArePaths}
 use Rattle.bridge_ast.specs.inside.Fitting.{AllAfter, FitsItem, FitsModule, IsFree, FitsUnder, FitInOrder}
 use Rattle.bridge_ast.specs.inside.Trails.{IsModule}
 use Rattle.bridge_ast.proofs.EachLemmas.{each-append}
-use Rattle.bridge_decl.proofs.NameIndexLemmas.{same_text, text_itself}
+use Rattle.bridge_text.proofs.NameIndexLemmas.{same_text, text_itself}
 use Rattle.bridge_ast.proofs.PathLemmas.{parent_and_last-snoc, module_at_some, named_at_module, slice_get_left}
 use Rattle.bridge_ast.proofs.TrailLemmas.{path_at_module}
 

@@ -9,7 +9,7 @@ use Rattle.bridge_ast.specs.declared.fault.EnvPart.TheVariants as part
 use Rattle.bridge_ast.specs.declared.fault.EnvPlace.{EnvPlace}
 use Rattle.bridge_ast.specs.Each.{each}
 use Rattle.bridge_ast.specs.EnvFaults.{IsFirst, place, repeats_name, bound_faults, node_faults, lifetime_faults, nodes_named}
-use Rattle.bridge_decl.specs.NameIndex.{HasMeanings}
+use Rattle.bridge_text.specs.NameIndex.{HasMeanings}
 use Rattle.bridge_ast.proofs.EachLemmas.{counted_kept, counted_stopped, numbered_more}
 
 -- the faults of a node of a number

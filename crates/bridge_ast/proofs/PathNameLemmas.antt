@@ -10,7 +10,7 @@ use Rattle.bridge_ast.specs.declared.trail.Head.TheVariants as head
 use Rattle.bridge_ast.specs.declared.place.ItemPlace.{ItemPlace}
 use Rattle.bridge_ast.specs.declared.trail.Next.{Next}
 use Rattle.bridge_ast.specs.declared.trail.Next.TheVariants as next
-use Rattle.bridge_decl.specs.NameIndex.{meaning_of}
+use Rattle.bridge_text.specs.NameIndex.{meaning_of}
 use Rattle.bridge_ast.specs.AliasCount.{alias_count}
 use Rattle.bridge_ast.specs.EnvFaults.{module_at, named_at, parent_and_last}
 use Rattle.bridge_ast.specs.Paths.{PathNames, NamesItem, in_root, in_itself, in_parent, in_submodule, by_alias, by_item, is_reserved}
@@ -19,7 +19,7 @@ use Rattle.bridge_ast.specs.inside.Scopes.{ArePaths}
 use Rattle.bridge_ast.specs.inside.Fitting.{FitInOrder}
 use Rattle.bridge_ast.specs.inside.Trails.{leads_within, IsModule}
 use Rattle.bridge_ast.proofs.AdvanceLemmas.{led, leads_by}
-use Rattle.bridge_decl.proofs.NameIndexLemmas.{same_text}
+use Rattle.bridge_text.proofs.NameIndexLemmas.{same_text}
 use Rattle.bridge_ast.proofs.NamedLemmas.{submodule_found, submodule_from, parent_found, parent_from, item_found, item_from, alias_found, alias_from}
 use Rattle.bridge_ast.proofs.TrailLemmas.{begun, next_inside}
 

@@ -18,13 +18,13 @@ use Rattle.bridge_ast.specs.declared.fault.EnvFaultKind.TheVariants.{DuplicateMo
 use Rattle.bridge_ast.specs.declared.fault.EnvPart.TheVariants as part
 use Rattle.bridge_ast.specs.EnvFaults.{IsFirst, module_at, named_at, named_in, parent_and_last, parent_faults}
 use Rattle.bridge_ast.specs.EnvFaults.{submodule_faults, path_faults, repeats, place, path_eq}
-use Rattle.bridge_decl.specs.NameIndex.{HasMeanings, meaning_of}
+use Rattle.bridge_text.specs.NameIndex.{HasMeanings, meaning_of}
 use Rattle.bridge_ast.specs.inside.Scopes.{ArePaths, IsUnder, IsParent, IsScope, Knows, AddsSubmodule, AddsUnder, Enters}
 use Rattle.bridge_ast.proofs.PathLemmas.{module_at_some, module_at-push, module_at-old, named_at_module, absent_longer}
 use Rattle.bridge_ast.proofs.PathLemmas.{parent_and_last-snoc, snoc_same, slice_get_push, parent_more, paths_more, none_under}
 use Rattle.bridge_ast.proofs.PathLemmas.{path_itself, other_path}
 use Rattle.bridge_ast.proofs.EachLemmas.{first_after, none_after}
-use Rattle.bridge_decl.proofs.NameIndexLemmas.{same_text, text_itself}
+use Rattle.bridge_text.proofs.NameIndexLemmas.{same_text, text_itself}
 use Rattle.std.proofs.lemmas.Bool.{eqb-true}
 use Rattle.std.proofs.lemmas.Bool.Decides.{eqb_tells}
 use Rattle.std.specs.BTreeMap.{is_at}

@@ -11,7 +11,7 @@ use Rattle.bridge_ast.specs.declared.fault.EnvFault.{EnvFault}
 use Rattle.bridge_ast.specs.declared.fault.EnvFault.TheVariants.{Bad}
 use Rattle.bridge_ast.specs.declared.fault.EnvFaultKind.{EnvFaultKind}
 use Rattle.bridge_ast.specs.declared.fault.EnvPlace.{EnvPlace}
-use Rattle.bridge_decl.specs.NameIndex.{meaning_of}
+use Rattle.bridge_text.specs.NameIndex.{meaning_of}
 use Rattle.bridge_ast.specs.Bounds.{in_range, answered}
 use Rattle.bridge_ast.specs.Each.{each_after}
 use Rattle.bridge_ast.specs.declared.fault.EnvFault.TheVariants.{NoMemory}

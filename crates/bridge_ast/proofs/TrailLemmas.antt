@@ -16,7 +16,7 @@ use Rattle.bridge_ast.specs.declared.trail.Next.TheVariants as next
 use Rattle.bridge_ast.specs.declared.place.ItemPlace.{ItemPlace}
 use Rattle.bridge_ast.specs.declared.trail.Stand.TheVariants as stand
 use Rattle.bridge_ast.specs.declared.trail.Trail.{Trail}
-use Rattle.bridge_decl.specs.NameIndex.{meaning_of}
+use Rattle.bridge_text.specs.NameIndex.{meaning_of}
 use Rattle.bridge_ast.specs.AliasCount.{alias_count}
 use Rattle.bridge_ast.specs.EnvFaults.{module_at, named_at, parent_and_last}
 use Rattle.bridge_ast.specs.inside.Resolution.{path_at, by_name, to_part, to_submodule, to_module, to_parent, named_within, named_item}

@@ -18,7 +18,7 @@ use Rattle.bridge_ast.specs.declared.fault.EnvFaultKind.TheVariants.{BoundOneSid
 use Rattle.bridge_ast.specs.declared.fault.EnvPart.{EnvPart}
 use Rattle.bridge_ast.specs.declared.fault.EnvPart.TheVariants as part
 use Rattle.bridge_ast.specs.declared.fault.EnvPlace.{EnvPlace}
-use Rattle.bridge_decl.specs.NameIndex.{meaning_of}
+use Rattle.bridge_text.specs.NameIndex.{meaning_of}
 use Rattle.bridge_ast.specs.Bounds.{in_range, answered}
 use Rattle.bridge_ast.specs.Each.{each, each_numbered}
 use Rattle.bridge_decl.specs.Names.{item_name}

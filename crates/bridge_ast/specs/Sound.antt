@@ -5,7 +5,8 @@ use Rattle.bridge_decl.specs.declared.lifetimes.LifetimeEnv.{LifetimeEnv}
 use Rattle.bridge_decl.specs.declared.modules.Item.{Item}
 use Rattle.bridge_decl.specs.declared.modules.Item.TheVariants.{Struct, Opaque, Enum, Trait, Function}
 use Rattle.bridge_decl.specs.declared.modules.Module.{Module}
-use Rattle.bridge_decl.specs.Lifetimes.{AreDistinct, IsSoundEnvironment}
+use Rattle.bridge_decl.specs.Lifetimes.{IsSoundEnvironment}
+use Rattle.bridge_text.specs.NameIndex.{AreDistinct}
 use Rattle.bridge_decl.specs.Names.{item_name}
 
 -- the lifetimes that an item declares itself, and then those that each of its methods declares

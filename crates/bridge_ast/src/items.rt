@@ -7,7 +7,7 @@ ghost use Rattle.bridge_ast.specs.Each.{each};
 ghost use Rattle.bridge_ast.specs.EnvFaults.{Named, Tells, repeats_name, nodes_of, method_nodes_of, lifetime_faults};
 ghost use Rattle.bridge_ast.specs.EnvFaults.{method_faults, item_faults, alias_faults, items_named, aliases_named};
 ghost use Rattle.bridge_ast.specs.EnvFaults.{content_faults, named_in};
-ghost use Rattle.bridge_decl.specs.NameIndex.{HasMeanings};
+ghost use Rattle.bridge_text.specs.NameIndex.{HasMeanings};
 ghost use Rattle.bridge_decl.specs.Names.{item_name};
 
 use crate::fault::{EnvFault, EnvFaultKind, EnvPart, EnvPlace};

@@ -2,7 +2,7 @@
 
 ghost use Rattle.std.specs.Prelude.{◌≡◌, ℕ, List, [], ◌∷◌, ◌++◌, OnOk, IfOk, MatchOption};
 ghost use Rattle.bridge_ast.specs.EnvFaults.{Named, Tells, repeats_name};
-ghost use Rattle.bridge_decl.specs.NameIndex.{HasMeanings, meaning_of};
+ghost use Rattle.bridge_text.specs.NameIndex.{HasMeanings, meaning_of};
 
 use crate::fault::{EnvFault, EnvFaultKind, EnvPart, EnvPlace};
 use bridge_decl::{NameIndex, Text, take_name};

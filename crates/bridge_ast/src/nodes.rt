@@ -5,7 +5,7 @@ ghost use Rattle.bridge_decl.specs.declared.lifetimes.LifetimeNode.{LifetimeNode
 ghost use Rattle.bridge_ast.specs.declared.fault.EnvPart.TheVariants as part;
 ghost use Rattle.bridge_ast.specs.inside.BoundLists.{HasBounds};
 ghost use Rattle.bridge_ast.specs.EnvFaults.{Named, Tells, place, repeats_name, bound_faults, lifetime_faults};
-ghost use Rattle.bridge_decl.specs.NameIndex.{HasMeanings};
+ghost use Rattle.bridge_text.specs.NameIndex.{HasMeanings};
 
 use crate::bounds::{BoundLists, bound_lists, test_bounds};
 use crate::fault::{EnvFault, EnvFaultKind, EnvPart, EnvPlace};

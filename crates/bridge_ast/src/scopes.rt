@@ -5,7 +5,7 @@ ghost use Rattle.std.specs.Prelude.{OnOk, MatchOption};
 ghost use Rattle.std.specs.Option.{ForSome};
 ghost use Rattle.bridge_decl.specs.declared.modules.Module.{Module};
 ghost use Rattle.bridge_ast.specs.declared.fault.EnvPart.TheVariants as part;
-ghost use Rattle.bridge_decl.specs.NameIndex.{meaning_of};
+ghost use Rattle.bridge_text.specs.NameIndex.{meaning_of};
 ghost use Rattle.bridge_ast.specs.EnvFaults.{Tells, place, repeats, module_at, named_at, path_faults};
 ghost use Rattle.bridge_ast.specs.EnvFaults.{submodule_faults, faults_of};
 ghost use Rattle.bridge_ast.specs.inside.Scopes.{Knows, IsParent, AddsUnder, Enters};

@@ -1,11 +1,8 @@
 -- What a declared environment of lifetimes says, and when its declarations fit together.
-use Rattle.std.specs.Prelude.{ℕ, ◌<◌, ◌≢◌, List, [], length, map, slice_index_or}
-use Rattle.std.specs.List.{AllPairs, Contains}
+use Rattle.std.specs.Prelude.{ℕ, ◌<◌, List, [], length, map, slice_index_or}
+use Rattle.std.specs.List.{Contains}
+use Rattle.bridge_text.specs.NameIndex.{AreDistinct}
 use Rattle.bridge_decl.specs.declared.lifetimes.LifetimeEnv.{LifetimeEnv}
-
--- no two entries are equal
-abbrev pub AreDistinct : List (List ℕ) → Type 0
-AreDistinct texts = AllPairs (λ earlier later. earlier ≢ later) texts
 
 -- the names of the lifetimes, in order
 abbrev pub lifetime_names : LifetimeEnv → List (List ℕ)

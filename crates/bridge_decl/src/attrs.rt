@@ -2,9 +2,7 @@
 
 ghost use Rattle.std.specs.Prelude.{◌≡◌, IfOk};
 
-use crate::clones::{clone_items, clone_option, clone_texts};
-use crate::rename::RenameAttr;
-use crate::text::{NoMemory, Text};
+use bridge_text::{NoMemory, RenameAttr, Text, clone_items, clone_option, clone_texts};
 use sqlite_items::{Boxed, Items};
 use std::alloc::Global;
 
@@ -222,17 +220,4 @@ impl Lit {
             Lit::Other => Ok(Lit::Other),
         }
     }
-}
-
-/// The kind of declaration that takes attributes over from the one that it stands in.
-#[derive(Clone, Copy)]
-pub enum AttrInheritContext {
-    /// A variant of an enum.
-    Variant,
-    /// A type, trait or function of a module.
-    OfType,
-    /// A method, from the module of its type.
-    MethodOrImplFromModule,
-    /// A submodule.
-    Module,
 }

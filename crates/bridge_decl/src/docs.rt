@@ -3,8 +3,7 @@
 ghost use Rattle.std.specs.Prelude.{◌≡◌, IfOk};
 
 use crate::attrs::{Attrs, DiplomatBackendAttrCfg};
-use crate::clones::{clone_items, clone_texts};
-use crate::text::{NoMemory, Text};
+use bridge_text::{NoMemory, Text, clone_items, clone_texts};
 use sqlite_items::Items;
 use std::alloc::Global;
 

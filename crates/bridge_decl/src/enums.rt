@@ -3,10 +3,9 @@
 ghost use Rattle.std.specs.Prelude.{◌≡◌, IfOk};
 
 use crate::attrs::Attrs;
-use crate::clones::clone_items;
 use crate::docs::{Docs, clone_notes};
 use crate::methods::Method;
-use crate::text::{NoMemory, Text};
+use bridge_text::{NoMemory, Text, clone_items};
 use sqlite_items::Items;
 use std::alloc::Global;
 

@@ -3,12 +3,11 @@
 ghost use Rattle.std.specs.Prelude.{◌≡◌, IfOk};
 
 use crate::attrs::Attrs;
-use crate::clones::clone_items;
 use crate::docs::Docs;
 use crate::lifetimes::{LifetimeEnv, clone_head};
 use crate::methods::{Param, clone_tail};
-use crate::text::{NoMemory, Text};
 use crate::types::TypeName;
+use bridge_text::{NoMemory, Text, clone_items};
 use sqlite_items::Items;
 use std::alloc::Global;
 

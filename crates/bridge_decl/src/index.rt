@@ -1,38 +1,13 @@
-//! Names by what they stand for, so that no list of names is searched.
+//! The numbers of declared lifetimes by their names.
 
-ghost use Rattle.std.specs.Prelude.{◌≡◌, ℕ, List, [], ◌∷◌, ◌++◌, IfOk, OnOk, OnErr};
+ghost use Rattle.std.specs.Prelude.{IfOk};
 ghost use Rattle.bridge_decl.specs.Lifetimes.{lifetime_names};
-ghost use Rattle.bridge_decl.specs.NameIndex.{meaning_of, HasMeanings, Indexes};
+ghost use Rattle.bridge_text.specs.NameIndex.{Indexes};
 
 use crate::lifetimes::LifetimeEnv;
-use crate::text::{NoMemory, Text};
+use bridge_text::{NameIndex, NoMemory, take_name};
 use std::alloc::Global;
 use std::collections::BTreeMap;
-
-/// What each name stands for.
-pub type NameIndex<T> = BTreeMap<Text, T>;
-
-/// Takes a name for a value, or answers the value that it stands for already, which it keeps. After want of memory no name is
-/// taken.
-pub fn take_name<T: Copy>(
-    alloc: Global,
-    index: &mut NameIndex<T>,
-    name: &Text,
-    value: T,
-) -> Result<Option<T>, NoMemory>
-    ensures earlier { (named : List (List ℕ × T)) → HasMeanings index.old named
-        → IfOk result (λ earlier. earlier ≡ meaning_of named name.now) }
-    ensures taken { (named : List (List ℕ × T)) → HasMeanings index.old named
-        → OnOk result (HasMeanings index.new (named ++ (name.now, value) ∷ [])) }
-    ensures refused { OnErr result (index.new.entries ≡ index.old.entries) }
-{
-    if let Some(earlier) = index.get(name) {
-        return Ok(Some(*earlier));
-    }
-    let key = name.try_clone(alloc)?;
-    index.insert(key, value)?;
-    Ok(None)
-}
 
 /// The number of each lifetime's name, the first where a name stands twice.
 pub fn index_lifetimes(alloc: Global, env: &LifetimeEnv) -> Result<NameIndex<usize>, NoMemory>

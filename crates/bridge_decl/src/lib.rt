@@ -1,4 +1,4 @@
-//! The declarations of a foreign interface as plain data, and the names in them.
+//! The declarations of a foreign interface as plain data.
 //!
 //! A *bridge* is a module of Rust whose types and functions other languages may use. This crate has what stands in
 //! one, word for word as it is written and without judging it: one type per kind of declaration, named as in the crate
@@ -28,10 +28,10 @@
 //!
 //! # Names
 //!
-//! A [`Text`] is seen by contracts as the list of its bytes, so two texts are one value where their bytes are the
-//! same. An [`IdentBuf`] is a text that is an identifier of Rust (`shorter`, `r#match`), and a [`RenameAttr`] a
-//! pattern that makes a new name of one: `Cut_{0}` makes `Cut_shorter`. [`index_lifetimes`] gives the number of each
-//! lifetime's name, so that nothing above searches a list: of `shorter` it has `a` at 0 and `b` at 1.
+//! The names in declarations are texts, seen by contracts as the lists of their bytes. What they are, which of them are
+//! identifiers and how patterns change them is `bridge_text`'s, all of which this crate hands on: a [`Text`], an
+//! [`IdentBuf`], a [`RenameAttr`], a [`NameIndex`]. [`index_lifetimes`] gives the number of each lifetime's name, so
+//! that nothing above searches a list: of `shorter` it has `a` at 0 and `b` at 1.
 //!
 //! # Copies
 //!
@@ -40,39 +40,32 @@
 #![tactic(auto)]
 
 mod attrs;
-mod clones;
 mod docs;
 mod enums;
 mod functions;
-mod idents;
 mod index;
 mod lifetimes;
 mod methods;
 mod modules;
 mod paths;
-mod rename;
 mod structs;
-mod text;
 mod traits;
 mod types;
 
-pub use attrs::{
-    Assign, AttrInheritContext, Attrs, DiplomatBackendAttr, DiplomatBackendAttrCfg, Lit, Meta,
-    MetaValue,
+pub use attrs::{Assign, Attrs, DiplomatBackendAttr, DiplomatBackendAttrCfg, Lit, Meta, MetaValue};
+pub use bridge_text::{
+    AttrInheritContext, IdentBuf, IdentFault, NameIndex, NoMemory, RenameAttr, RenameFault, Text,
+    clone_items, clone_option, clone_texts, is_ident, take_name,
 };
-pub use clones::{clone_items, clone_option, clone_texts};
 pub use docs::{DocBlock, DocType, Docs, RustLink, RustLinkDisplay};
 pub use enums::{Enum, Variant};
 pub use functions::Function;
-pub use idents::{IdentBuf, IdentFault, is_ident};
-pub use index::{NameIndex, index_lifetimes, take_name};
+pub use index::index_lifetimes;
 pub use lifetimes::{Lifetime, LifetimeEnv, LifetimeNode};
 pub use methods::{Method, Param, SelfParam};
 pub use modules::{Alias, Item, Module};
 pub use paths::PathType;
-pub use rename::{RenameAttr, RenameFault};
 pub use sqlite_items::{Boxed, Items};
 pub use structs::{Field, OpaqueType, Struct};
-pub use text::{NoMemory, Text};
 pub use traits::{Trait, TraitMethod, TraitSelfParam};
 pub use types::{Mutability, PrimitiveType, StdlibOrDiplomat, StringEncoding, TypeName, WriteType};

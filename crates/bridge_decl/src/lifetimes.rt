@@ -2,8 +2,7 @@
 
 ghost use Rattle.std.specs.Prelude.{◌≡◌, IfOk};
 
-use crate::clones::clone_items;
-use crate::text::{NoMemory, Text};
+use bridge_text::{NoMemory, Text, clone_items};
 use sqlite_items::Items;
 use std::alloc::Global;
 

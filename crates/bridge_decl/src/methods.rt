@@ -3,12 +3,11 @@
 ghost use Rattle.std.specs.Prelude.{◌≡◌, IfOk};
 
 use crate::attrs::Attrs;
-use crate::clones::{clone_items, clone_option};
 use crate::docs::{Docs, clone_notes};
 use crate::lifetimes::{Lifetime, LifetimeEnv, clone_head};
 use crate::paths::PathType;
-use crate::text::{NoMemory, Text};
 use crate::types::{Mutability, TypeName, clone_borrow};
+use bridge_text::{NoMemory, Text, clone_items, clone_option};
 use sqlite_items::Items;
 use std::alloc::Global;
 

@@ -3,12 +3,11 @@
 ghost use Rattle.std.specs.Prelude.{◌≡◌, IfOk};
 
 use crate::attrs::Attrs;
-use crate::clones::{clone_items, clone_texts};
 use crate::enums::Enum;
 use crate::functions::Function;
 use crate::structs::{OpaqueType, Struct};
-use crate::text::{NoMemory, Text};
 use crate::traits::Trait;
+use bridge_text::{NoMemory, Text, clone_items, clone_texts};
 use sqlite_items::Items;
 use std::alloc::Global;
 

@@ -2,9 +2,8 @@
 
 ghost use Rattle.std.specs.Prelude.{◌≡◌, IfOk};
 
-use crate::clones::{clone_items, clone_texts};
 use crate::lifetimes::Lifetime;
-use crate::text::{NoMemory, Text};
+use bridge_text::{NoMemory, Text, clone_items, clone_texts};
 use sqlite_items::Items;
 use std::alloc::Global;
 

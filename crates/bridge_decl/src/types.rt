@@ -2,10 +2,9 @@
 
 ghost use Rattle.std.specs.Prelude.{◌≡◌, ◌↔◌, IsTrue, IfOk};
 
-use crate::clones::clone_option;
 use crate::lifetimes::Lifetime;
 use crate::paths::PathType;
-use crate::text::NoMemory;
+use bridge_text::{NoMemory, clone_option};
 use sqlite_items::{Boxed, Items};
 use std::alloc::Global;
 

@@ -18,7 +18,7 @@ use Rattle.bridge_ast.specs.declared.fault.EnvFaultKind.TheVariants.{DuplicateMo
 use Rattle.bridge_ast.specs.declared.fault.EnvPart.{EnvPart}
 use Rattle.bridge_ast.specs.declared.fault.EnvPart.TheVariants as part
 use Rattle.bridge_ast.specs.declared.fault.EnvPlace.{EnvPlace}
-use Rattle.bridge_decl.specs.NameIndex.{meaning_of}
+use Rattle.bridge_text.specs.NameIndex.{meaning_of}
 use Rattle.bridge_ast.specs.Bounds.{in_range, answered}
 use Rattle.bridge_ast.specs.Each.{each, each_after}
 use Rattle.bridge_ast.specs.EnvFaults.{Named, aliases_named, items_named, named_at, nodes_named, path_eq, place, module_at, parent_and_last, where_so, repeats, repeats_name, bound_faults, node_faults, lifetime_faults, method_nodes_of, nodes_of, method_faults, item_faults, alias_faults, faults_under, parent_faults, content_faults, module_faults, faults_of, path_faults}

@@ -22,9 +22,9 @@ use Rattle.bridge_tool.specs.declared.borrowing.ReturnedLifetime.{ReturnedLifeti
 use Rattle.bridge_tool.specs.Borrows.{Leaf, numbers, leaves_at, param_leaves, leaves, returned_numbers, Carries, IsReturned}
 use Rattle.bridge_tool.specs.Checks.{type_lifetimes, receiver_lifetimes, returned_lifetimes}
 use Rattle.bridge_tool.specs.Chosen.{Chosen, EachPair}
-use Rattle.bridge_decl.specs.NameIndex.{number_of}
+use Rattle.bridge_text.specs.NameIndex.{number_of}
 use Rattle.bridge_tool.specs.inside.Listing.{IsInRange, AreInRange, paths_of, edges_of, Lists}
-use Rattle.bridge_decl.proofs.NameIndexLemmas.{number_of_some}
+use Rattle.bridge_text.proofs.NameIndexLemmas.{number_of_some}
 
 -- a parameter more at the end
 pub param_leaves-push : (env : LifetimeEnv) (n m : ℕ) (params : List Param) (param : Param) → n + length params ≡ m

@@ -8,7 +8,7 @@ use Rattle.bridge_decl.specs.declared.lifetimes.LifetimeNode.{LifetimeNode}
 use Rattle.bridge_decl.specs.declared.methods.Method.{Method}
 use Rattle.bridge_decl.specs.declared.modules.Item.{Item}
 use Rattle.bridge_decl.specs.declared.modules.Module.{Module}
-use Rattle.bridge_decl.specs.Ident.{IsIdent}
+use Rattle.bridge_text.specs.Ident.{IsIdent}
 use Rattle.bridge_decl.specs.Lifetimes.{lifetime_names}
 use Rattle.bridge_decl.specs.Names.{item_name, Place}
 use Rattle.bridge_tool.specs.declared.rules.Rule.TheVariants as rule

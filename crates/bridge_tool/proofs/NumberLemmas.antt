@@ -5,8 +5,8 @@ use Rattle.std.specs.Ordering.{nat_cmp}
 use Rattle.std.specs.Cmp.Lexicographic.{slice_cmp}
 use Rattle.std.specs.BTreeMap.{BTreeMap, get}
 use Rattle.std.proofs.lemmas.Option.{get_or_from_slice_get}
-use Rattle.bridge_decl.specs.NameIndex.{Indexes, number_of}
-use Rattle.bridge_decl.proofs.NameIndexLemmas.{number_of_none, number_of_some}
+use Rattle.bridge_text.specs.NameIndex.{Indexes, number_of}
+use Rattle.bridge_text.proofs.NameIndexLemmas.{number_of_none, number_of_some}
 
 is_some_some : (o : Option ℕ) → is_some o ≡ true → (k : ℕ) × (o ≡ Some k)
 is_some_some (Some k) h = (k, refl)

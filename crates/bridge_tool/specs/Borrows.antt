@@ -28,7 +28,7 @@ use Rattle.bridge_tool.specs.Checks.{lifetime_name, receiver_lifetimes, returned
 use Rattle.bridge_tool.specs.Methods.{methods_of}
 use Rattle.bridge_tool.specs.Order.{of_found, module_order}
 use Rattle.bridge_tool.specs.Chosen.{Chosen, EachPair}
-use Rattle.bridge_decl.specs.NameIndex.{number_of}
+use Rattle.bridge_text.specs.NameIndex.{number_of}
 
 -- the number of a lifetime in its environment; only lifetimes with a declared name have one so far
 abbrev pub numbers : LifetimeEnv → Lifetime → List ℕ

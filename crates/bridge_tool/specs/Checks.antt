@@ -14,7 +14,7 @@ use Rattle.bridge_ast.specs.declared.place.ItemPlace.{ItemPlace}
 use Rattle.bridge_decl.specs.declared.modules.Item.{Item}
 use Rattle.bridge_decl.specs.declared.modules.Module.{Module}
 use Rattle.bridge_decl.specs.Lifetimes.{lifetime_names}
-use Rattle.bridge_decl.specs.Ident.{IsIdent}
+use Rattle.bridge_text.specs.Ident.{IsIdent}
 use Rattle.bridge_decl.specs.Names.{item_name, Place}
 use Rattle.bridge_ast.specs.Types.{NamesType}
 use Rattle.bridge_tool.specs.Methods.{methods_of}

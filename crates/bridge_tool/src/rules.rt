@@ -6,7 +6,7 @@ ghost use Rattle.bridge_decl.specs.declared.modules.Module.{Module as Declared};
 ghost use Rattle.bridge_decl.specs.declared.types.TypeName.{out-TypeName};
 ghost use Rattle.bridge_decl.specs.Lifetimes.{lifetime_names};
 ghost use Rattle.bridge_tool.specs.Checks.{name, path, lifetime, Fails, type_paths, type_lifetimes, lifetime_name, method_names, method_paths, method_lifetimes, receiver_paths, receiver_lifetimes, returned_paths, returned_lifetimes, tested_in_method, tested_in_item, tested_in_module, tested_in, tested_at_number};
-ghost use Rattle.bridge_decl.specs.NameIndex.{Indexes};
+ghost use Rattle.bridge_text.specs.NameIndex.{Indexes};
 ghost use Rattle.bridge_tool.specs.Chosen.{Chosen};
 ghost use Rattle.bridge_tool.specs.Order.{module_order};
 ghost use Rattle.bridge_tool.specs.inside.Reporting.{tested_at, tested_of, Reports};

@@ -4,7 +4,7 @@ use Rattle.std.specs.Prelude.{option_map}
 use Rattle.std.proofs.lemmas.List.{drop_more}
 use Rattle.std.specs.Str.{bytes_eq}
 use Rattle.bridge_decl.specs.declared.lifetimes.LifetimeNode.{LifetimeNode}
-use Rattle.bridge_decl.specs.NameIndex.{number_of}
+use Rattle.bridge_text.specs.NameIndex.{number_of}
 
 -- a place in the rest of a list, as one of the whole
 abbrev pub shifted : ℕ → Option ℕ → Option ℕ

@@ -6,7 +6,7 @@ use Rattle.bridge_decl.specs.declared.lifetimes.Lifetime.{Lifetime}
 use Rattle.bridge_decl.specs.declared.lifetimes.Lifetime.TheVariants as written
 use Rattle.hir_elide.specs.declared.fault.ElideFault.{ElideFault}
 use Rattle.hir_elide.specs.declared.fault.ElideFault.TheVariants as fault
-use Rattle.bridge_decl.specs.NameIndex.{number_of}
+use Rattle.bridge_text.specs.NameIndex.{number_of}
 use Rattle.hir_life.specs.declared.maybe_static.MaybeStatic.{MaybeStatic}
 use Rattle.hir_life.specs.declared.maybe_static.MaybeStatic.TheVariants.{Static, NonStatic}
 

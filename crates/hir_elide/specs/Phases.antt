@@ -7,7 +7,7 @@ use Rattle.bridge_decl.specs.Lifetimes.{lifetime_names}
 use Rattle.hir_elide.specs.declared.fault.ElideFault.TheVariants as fault
 use Rattle.hir_elide.specs.Elision.{elided}
 use Rattle.hir_elide.specs.Numbering.{Number, lifetime_number, lifetime_numbers, name_number}
-use Rattle.bridge_decl.specs.NameIndex.{number_of}
+use Rattle.bridge_text.specs.NameIndex.{number_of}
 use Rattle.hir_elide.specs.Occurrences.{Role, Occurrence, Signature, count_of}
 use Rattle.hir_life.specs.declared.maybe_static.MaybeStatic.TheVariants.{Static}
 

@@ -2,7 +2,7 @@
 
 ghost use Rattle.std.specs.Prelude.{◌≡◌};
 ghost use Rattle.bridge_decl.specs.Lifetimes.{IsSoundEnvironment, lifetime_names};
-ghost use Rattle.bridge_decl.specs.NameIndex.{number_of};
+ghost use Rattle.bridge_text.specs.NameIndex.{number_of};
 ghost use Rattle.hir_elide.specs.Phases.{Defining};
 ghost use Rattle.hir_elide.specs.Signature.{begun};
 

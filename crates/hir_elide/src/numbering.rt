@@ -2,7 +2,7 @@
 
 ghost use Rattle.std.specs.Prelude.{◌≡◌, ◌≤◌, ◌∷◌, [], Ok, IfOk, OnOk, length, map};
 ghost use Rattle.bridge_decl.specs.Lifetimes.{lifetime_names};
-ghost use Rattle.bridge_decl.specs.NameIndex.{number_of};
+ghost use Rattle.bridge_text.specs.NameIndex.{number_of};
 ghost use Rattle.bridge_decl.specs.declared.lifetimes.Lifetime.TheVariants as written;
 ghost use Rattle.hir_elide.specs.Generics.{IsUnlessNoMemory, all_or_fault, filled, own_numbers, with_own};
 ghost use Rattle.hir_elide.specs.Numbering.{lifetime_number, name_number, within_most};

@@ -1,7 +1,7 @@
 //! Environments made of declared lifetimes.
 
 ghost use Rattle.std.specs.Prelude.{◌≡◌, ◌+◌, ◌<◌, IfOk, OnOk, IsErrOf, map, All};
-ghost use Rattle.bridge_decl.specs.Ident.{IsIdent};
+ghost use Rattle.bridge_text.specs.Ident.{IsIdent};
 ghost use Rattle.hir_life.specs.Declarations.{bounded};
 
 use crate::bounds::{BoundedLifetime, LifetimeList};

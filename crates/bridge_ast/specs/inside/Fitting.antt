@@ -5,7 +5,7 @@ use Rattle.bridge_decl.specs.declared.modules.Alias.{Alias}
 use Rattle.bridge_decl.specs.declared.modules.Item.{Item}
 use Rattle.bridge_decl.specs.declared.modules.Module.{Module}
 use Rattle.bridge_ast.specs.declared.bounds.Side.TheVariants.{Longer, Shorter}
-use Rattle.bridge_decl.specs.NameIndex.{meaning_of}
+use Rattle.bridge_text.specs.NameIndex.{meaning_of}
 use Rattle.bridge_ast.specs.Bounds.{in_range, answered}
 use Rattle.bridge_ast.specs.EnvFaults.{module_at, parent_and_last, named_at, nodes_named, items_named, aliases_named}
 use Rattle.bridge_ast.specs.EnvFaults.{nodes_of, method_nodes_of}

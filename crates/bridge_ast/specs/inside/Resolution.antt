@@ -14,7 +14,7 @@ use Rattle.bridge_ast.specs.declared.trail.Head.TheVariants.{Start, Supers, Name
 use Rattle.bridge_ast.specs.declared.trail.Next.{Next}
 use Rattle.bridge_ast.specs.declared.trail.Next.TheVariants as next
 use Rattle.bridge_ast.specs.declared.place.ItemPlace.{ItemPlace}
-use Rattle.bridge_decl.specs.NameIndex.{meaning_of}
+use Rattle.bridge_text.specs.NameIndex.{meaning_of}
 use Rattle.bridge_ast.specs.AliasCount.{alias_count}
 use Rattle.bridge_ast.specs.EnvFaults.{module_at, named_at, parent_and_last}
 

@@ -7,7 +7,7 @@ use Rattle.std.specs.Str.{bytes_eq}
 use Rattle.bridge_decl.specs.declared.modules.Module.{Module}
 use Rattle.bridge_ast.specs.declared.scopes.Scope.{Scope}
 use Rattle.bridge_ast.specs.EnvFaults.{module_at, named_in}
-use Rattle.bridge_decl.specs.NameIndex.{HasMeanings}
+use Rattle.bridge_text.specs.NameIndex.{HasMeanings}
 
 -- module paths are distinct, the first is empty, and a path that no module has is the beginning of none
 pub record ArePaths (modules : List Module) : Type 0 where

@@ -1,7 +1,7 @@
 -- Attributes: conditions, literals and marks.
 use Rattle.std.specs.Prelude.{ℕ, zero, suc, List, [], ◌∷◌, codes, length, ◌==◌, nat_lt, Bool, true, false, Option, Some, None, if◌then◌else◌}
 use Rattle.std.specs.Str.{bytes_eq, chars, all_ascii_digits}
-use Rattle.bridge_decl.specs.Rename.{placeholder_count}
+use Rattle.bridge_text.specs.Rename.{placeholder_count}
 use Rattle.bridge_decl.specs.declared.attrs.Attrs.{Attrs}
 use Rattle.bridge_decl.specs.declared.attrs.Assign.{Assign}
 use Rattle.bridge_decl.specs.declared.attrs.DiplomatBackendAttr.{DiplomatBackendAttr}

@@ -1,7 +1,7 @@
 -- BadIdent: a name of an item, a method, a parameter or a lifetime isn't an identifier.
 use Rattle.std.specs.Prelude.{◌≡◌, ℕ, List, [], ◌∷◌}
 use Rattle.bridge_decl.specs.declared.modules.Module.{Module}
-use Rattle.bridge_decl.specs.Ident.{IsIdent}
+use Rattle.bridge_text.specs.Ident.{IsIdent}
 use Rattle.bridge_decl.specs.Names.{Place}
 use Rattle.bridge_tool.specs.Checks.{name}
 use Rattle.bridge_tool.specs.Tested.{StandsAt}

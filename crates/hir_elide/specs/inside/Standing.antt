@@ -6,7 +6,7 @@ use Rattle.hir_elide.specs.declared.numbering.Numbering.{Numbering}
 use Rattle.hir_elide.specs.declared.params.ParamLifetimeLowerer.{ParamLifetimeLowerer}
 use Rattle.hir_elide.specs.declared.returns.ReturnLifetimeLowerer.{ReturnLifetimeLowerer}
 use Rattle.hir_elide.specs.declared.self_param.SelfParamLifetimeLowerer.{SelfParamLifetimeLowerer}
-use Rattle.bridge_decl.specs.NameIndex.{Indexes}
+use Rattle.bridge_text.specs.NameIndex.{Indexes}
 use Rattle.hir_elide.specs.Occurrences.{Signature, is_borrow, is_counting, is_own, used_as}
 use Rattle.hir_elide.specs.Signature.{environment_of}
 use Rattle.hir_elide.specs.inside.Sources.{IsSource}

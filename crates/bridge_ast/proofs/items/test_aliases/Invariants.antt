@@ -2,7 +2,7 @@ use Rattle.std.proofs.Common.{◌≡◌, take, List, [], ◌++◌}
 use Rattle.bridge_decl.specs.declared.modules.Item.{Item}
 use Rattle.bridge_ast.specs.Each.{each}
 use Rattle.bridge_ast.specs.EnvFaults.{items_named, aliases_named, alias_faults}
-use Rattle.bridge_decl.specs.NameIndex.{HasMeanings}
+use Rattle.bridge_text.specs.NameIndex.{HasMeanings}
 use Rattle.bridge_ast.proofs.items.test_aliases.Given as goal
 
 abbrev pub invariant-loop-number : goal.invariant-loop-number

@@ -1,7 +1,7 @@
 use Rattle.std.proofs.Common.{subst, ◌++◌}
 use Rattle.bridge_ast.specs.EnvFaults.{items_named, aliases_named}
-use Rattle.bridge_decl.specs.NameIndex.{HasMeanings}
-use Rattle.bridge_decl.proofs.NameIndexLemmas.{meanings_none}
+use Rattle.bridge_text.specs.NameIndex.{HasMeanings}
+use Rattle.bridge_text.proofs.NameIndexLemmas.{meanings_none}
 use Rattle.bridge_ast.proofs.items.test_contents.Goals as goal
 
 pub returns-clause-indexed : goal.returns-clause-indexed

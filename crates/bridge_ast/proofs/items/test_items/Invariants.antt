@@ -1,7 +1,7 @@
 use Rattle.std.proofs.Common.{◌≡◌, take, []}
 use Rattle.bridge_ast.specs.Each.{each}
 use Rattle.bridge_ast.specs.EnvFaults.{items_named, item_faults}
-use Rattle.bridge_decl.specs.NameIndex.{HasMeanings}
+use Rattle.bridge_text.specs.NameIndex.{HasMeanings}
 use Rattle.bridge_ast.proofs.items.test_items.Given as goal
 
 abbrev pub invariant-loop-number : goal.invariant-loop-number

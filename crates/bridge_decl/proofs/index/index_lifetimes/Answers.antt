@@ -1,5 +1,5 @@
 use Rattle.std.proofs.Common.{map, take}
-use Rattle.bridge_decl.proofs.NameIndexLemmas.{with_places, indexes_to, indexes_next}
+use Rattle.bridge_text.proofs.NameIndexLemmas.{with_places, indexes_to, indexes_next}
 use Rattle.bridge_decl.proofs.index.index_lifetimes.Goals as goal
 
 pub loop-number-preserved : goal.loop-number-preserved

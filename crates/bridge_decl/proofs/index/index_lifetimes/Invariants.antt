@@ -1,5 +1,5 @@
 use Rattle.std.proofs.Common.{map, take}
-use Rattle.bridge_decl.specs.NameIndex.{Indexes}
+use Rattle.bridge_text.specs.NameIndex.{Indexes}
 use Rattle.bridge_decl.proofs.index.index_lifetimes.Given as goal
 
 abbrev pub invariant-loop-number : goal.invariant-loop-number

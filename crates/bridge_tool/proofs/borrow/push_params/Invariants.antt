@@ -2,7 +2,7 @@ use Rattle.std.proofs.Common.{◌≡◌, ◌++◌, map, take}
 use Rattle.bridge_decl.specs.declared.lifetimes.LifetimeEnv.{LifetimeEnv}
 use Rattle.bridge_decl.specs.Lifetimes.{lifetime_names}
 use Rattle.bridge_tool.specs.Borrows.{param_leaves}
-use Rattle.bridge_decl.specs.NameIndex.{Indexes}
+use Rattle.bridge_text.specs.NameIndex.{Indexes}
 use Rattle.bridge_tool.specs.inside.Listing.{leaf_of}
 use Rattle.bridge_tool.proofs.borrow.push_params.Given as goal
 

@@ -1,6 +1,6 @@
 use Rattle.std.proofs.Common.{◌≡◌, ◌∷◌, [], false, true, map, refl, sym, ap, subst, ◌∙◌}
 use Rattle.std.proofs.lemmas.List.{map-append}
-use Rattle.bridge_decl.specs.Ident.{IsIdent}
+use Rattle.bridge_text.specs.Ident.{IsIdent}
 use Rattle.bridge_tool.specs.Checks.{name}
 use Rattle.bridge_tool.specs.inside.Reporting.{tested_at, tested_of, Appends}
 use Rattle.bridge_tool.specs.Checks.{TestFails}

@@ -4,7 +4,7 @@ use Rattle.bridge_decl.specs.declared.modules.Module.{Module}
 use Rattle.bridge_decl.specs.declared.types.TypeName.{out-TypeName}
 use Rattle.bridge_decl.specs.Lifetimes.{lifetime_names}
 use Rattle.bridge_tool.specs.Checks.{lifetime, lifetime_name, type_lifetimes}
-use Rattle.bridge_decl.specs.NameIndex.{Indexes}
+use Rattle.bridge_text.specs.NameIndex.{Indexes}
 use Rattle.bridge_tool.specs.inside.Reporting.{tested_at, Reports}
 use Rattle.bridge_tool.proofs.rules.test_param_lifetimes.Given as goal
 

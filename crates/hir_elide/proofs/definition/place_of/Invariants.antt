@@ -1,6 +1,6 @@
 use Rattle.std.proofs.Common.{◌≡◌, drop, map}
 use Rattle.bridge_decl.specs.Lifetimes.{lifetime_names}
-use Rattle.bridge_decl.specs.NameIndex.{number_of}
+use Rattle.bridge_text.specs.NameIndex.{number_of}
 use Rattle.hir_elide.proofs.PlaceLemmas.{shifted}
 use Rattle.hir_elide.proofs.definition.place_of.Given as goal
 

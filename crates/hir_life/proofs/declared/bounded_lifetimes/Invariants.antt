@@ -1,6 +1,6 @@
 use Rattle.std.proofs.Common.{◌≡◌, map, take}
 use Rattle.std.specs.Prelude.{All}
-use Rattle.bridge_decl.specs.Ident.{IsIdent}
+use Rattle.bridge_text.specs.Ident.{IsIdent}
 use Rattle.hir_life.specs.Declarations.{bounded}
 use Rattle.hir_life.proofs.declared.bounded_lifetimes.Given as goal
 

@@ -1,8 +1,8 @@
 -- Where `{0}` stands in a pattern, what a pattern makes of a name, and where it is handed on. A text is the list of its bytes.
 use Rattle.std.specs.Prelude.{◌≡◌, ℕ, suc, List, [], ◌∷◌, ◌++◌, Option, Some, None, if◌then◌else◌, codes, nat_eq, nat_lt}
 use Rattle.std.specs.List.{starts_with}
-use Rattle.bridge_decl.specs.declared.attrs.AttrInheritContext.{AttrInheritContext}
-use Rattle.bridge_decl.specs.declared.attrs.AttrInheritContext.TheVariants.{Variant, OfType, MethodOrImplFromModule, Module}
+use Rattle.bridge_text.specs.declared.rename.AttrInheritContext.{AttrInheritContext}
+use Rattle.bridge_text.specs.declared.rename.AttrInheritContext.TheVariants.{Variant, OfType, MethodOrImplFromModule, Module}
 
 -- what stands for the name in a pattern
 abbrev pub placeholder : List ℕ

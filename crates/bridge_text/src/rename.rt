@@ -5,9 +5,8 @@
 
 ghost use Rattle.std.specs.Prelude.{◌≡◌, ◌↔◌, ◌<◌, ◌≤◌, IsTrue, IfOk, OnOk, IfSome, IsErrOf, Some, None};
 ghost use Rattle.std.specs.Option.{option_copied};
-ghost use Rattle.bridge_decl.specs.Rename.{placeholder_count, IsFilled, IsRenamed, inherited_pattern, kept_pattern};
+ghost use Rattle.bridge_text.specs.Rename.{placeholder_count, IsFilled, IsRenamed, inherited_pattern, kept_pattern};
 
-use crate::attrs::AttrInheritContext;
 use crate::text::{NoMemory, Text};
 use std::alloc::{AllocError, Global};
 use std::marker::Model;
@@ -23,13 +22,26 @@ pub enum RenameFault {
 
 impl From<AllocError> for RenameFault {
     ghost use Rattle.std.specs.Prelude.{◌≡◌};
-    ghost use Rattle.bridge_decl.specs.declared.rename.RenameFault.{RenameFault};
+    ghost use Rattle.bridge_text.specs.declared.rename.RenameFault.{RenameFault};
 
     ghost from_gives = { λ _ fault. fault ≡ RenameFault.NoMemory };
 
     fn from(_error: AllocError) -> RenameFault {
         RenameFault::NoMemory
     }
+}
+
+/// The kind of declaration that takes attributes over from the one that it stands in.
+#[derive(Clone, Copy)]
+pub enum AttrInheritContext {
+    /// A variant of an enum.
+    Variant,
+    /// A type, trait or function of a module.
+    OfType,
+    /// A method, from the module of its type.
+    MethodOrImplFromModule,
+    /// A submodule.
+    Module,
 }
 
 /// How names are changed: a pattern in which `{0}` stands for the name, at most once, or nothing. Contracts see it as the
@@ -41,7 +53,7 @@ pub struct RenameAttr {
 
 impl Model for RenameAttr {
     ghost use Rattle.std.specs.Prelude.{Option, List, ℕ, ◌≤◌, IfSome};
-    ghost use Rattle.bridge_decl.specs.Rename.{placeholder_count};
+    ghost use Rattle.bridge_text.specs.Rename.{placeholder_count};
 
     ghost Value = { Option (List ℕ) };
 

@@ -1,8 +1,8 @@
 use Rattle.std.proofs.Common.{None, arith}
 use Rattle.std.proofs.lemmas.Str.Pattern.{split_text_parts}
-use Rattle.bridge_decl.specs.Rename.{placeholder}
-use Rattle.bridge_decl.proofs.RenameLemmas.{count-none, cut_count}
-use Rattle.bridge_decl.proofs.rename.has_two_placeholders.Goals as goal
+use Rattle.bridge_text.specs.Rename.{placeholder}
+use Rattle.bridge_text.proofs.RenameLemmas.{count-none, cut_count}
+use Rattle.bridge_text.proofs.rename.has_two_placeholders.Goals as goal
 
 pub returns-in-Some : goal.returns-in-Some
 returns-in-Some c =

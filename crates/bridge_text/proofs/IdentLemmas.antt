@@ -6,7 +6,7 @@ use Rattle.std.specs.List.{list_all}
 use Rattle.std.specs.Char.{encode_utf8}
 use Rattle.std.proofs.lemmas.Str.{chars_past_char}
 use Rattle.std.proofs.lemmas.List.Sums.{AllPass-from_list_all, list_all-from_AllPass}
-use Rattle.bridge_decl.specs.Ident.{HasShape, MayStart, IsPlain, IsIdent, IsRaw, MayBeRaw}
+use Rattle.bridge_text.specs.Ident.{HasShape, MayStart, IsPlain, IsIdent, IsRaw, MayBeRaw}
 use Rattle.unicode_ident.specs.Ident.{is_xid_continue}
 use Rattle.unicode_ident.proofs.IdentLemmas.{is_xid_continue-ascii}
 

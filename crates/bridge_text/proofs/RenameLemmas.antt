@@ -8,7 +8,7 @@ use Rattle.std.specs.Str.Iter.{HasSubslice}
 use Rattle.std.proofs.lemmas.Bool.{cases_Bool}
 use Rattle.std.proofs.lemmas.Bool.Decides.{Decides-eqb}
 use Rattle.std.proofs.lemmas.Slice.Eq.{starts_is}
-use Rattle.bridge_decl.specs.Rename.{placeholder, placeholder_count, IsFilled}
+use Rattle.bridge_text.specs.Rename.{placeholder, placeholder_count, IsFilled}
 
 abbrev begins : List ℕ → Bool
 begins text = starts_with nat_eq text placeholder

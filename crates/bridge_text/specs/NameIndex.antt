@@ -1,5 +1,6 @@
 -- What names stand for, and where they stand in a list.
-use Rattle.std.specs.Prelude.{◌≡◌, ℕ, suc, List, [], ◌∷◌, Option, Some, None, option_map, if◌then◌else◌}
+use Rattle.std.specs.Prelude.{◌≡◌, ◌≢◌, ℕ, suc, List, [], ◌∷◌, Option, Some, None, option_map, if◌then◌else◌}
+use Rattle.std.specs.List.{AllPairs}
 use Rattle.std.specs.Str.{bytes_eq}
 use Rattle.std.specs.Ordering.{nat_cmp}
 use Rattle.std.specs.Cmp.Lexicographic.{slice_cmp}
@@ -22,3 +23,7 @@ pub record HasMeanings {V : Type 0} (index : BTreeMap (List ℕ) V) (named : Lis
 -- the map has each name with its place, and nothing else
 pub record Indexes (index : BTreeMap (List ℕ) ℕ) (names : List (List ℕ)) : Type 0 where
   pub finds : (name : List ℕ) → get (slice_cmp nat_cmp) index name ≡ number_of names name
+
+-- no two entries are equal
+abbrev pub AreDistinct : List (List ℕ) → Type 0
+AreDistinct texts = AllPairs (λ earlier later. earlier ≢ later) texts

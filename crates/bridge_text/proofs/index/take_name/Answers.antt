@@ -1,6 +1,6 @@
 use Rattle.std.proofs.Common.{sym, ◌∙◌}
-use Rattle.bridge_decl.proofs.NameIndexLemmas.{meanings_again, meanings_one_more}
-use Rattle.bridge_decl.proofs.index.take_name.Goals as goal
+use Rattle.bridge_text.proofs.NameIndexLemmas.{meanings_again, meanings_one_more}
+use Rattle.bridge_text.proofs.index.take_name.Goals as goal
 
 pub returns-in-Some-clause-taken : goal.returns-in-Some-clause-taken
 returns-in-Some-clause-taken g c = λ named has.

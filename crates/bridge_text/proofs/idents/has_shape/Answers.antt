@@ -4,8 +4,8 @@ use Rattle.std.proofs.lemmas.Str.{IsUtf8-past_char}
 use Rattle.std.proofs.lemmas.Iterator.{YieldsList-from_chars}
 use Rattle.std.proofs.lemmas.Iterator.Search.{all_from_yields_List}
 use Rattle.unicode_ident.specs.Ident.{is_xid_continue}
-use Rattle.bridge_decl.proofs.IdentLemmas.{shaped}
-use Rattle.bridge_decl.proofs.idents.has_shape.Goals as goal
+use Rattle.bridge_text.proofs.IdentLemmas.{shaped}
+use Rattle.bridge_text.proofs.idents.has_shape.Goals as goal
 
 pub returns-then-may_start : goal.returns-then-may_start
 returns-then-may_start c =

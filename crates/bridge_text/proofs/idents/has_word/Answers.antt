@@ -1,5 +1,5 @@
-use Rattle.bridge_decl.proofs.TableLemmas.{found_in_table}
-use Rattle.bridge_decl.proofs.idents.has_word.Goals as goal
+use Rattle.bridge_text.proofs.TableLemmas.{found_in_table}
+use Rattle.bridge_text.proofs.idents.has_word.Goals as goal
 
 pub returns : goal.returns
 returns c =

@@ -8,8 +8,8 @@ ghost use Rattle.std.specs.Str.{chars};
 ghost use Rattle.std.specs.Cmp.{partial_equiv_from_equiv};
 ghost use Rattle.std.specs.Cmp.Lexicographic.{pointwise, slice_cmp, nat_list_eq_equiv, nat_list_cmp_total, texts_ties, texts_po};
 ghost use Rattle.std.specs.Ordering.{nat_cmp, is_lt};
-ghost use Rattle.bridge_decl.specs.Ident.{reserved_words, path_words, MayStart, HasShape, IsPlain, IsIdent, MayBeRaw};
-ghost use Rattle.bridge_decl.specs.inside.Tables.{rises};
+ghost use Rattle.bridge_text.specs.Ident.{reserved_words, path_words, MayStart, HasShape, IsPlain, IsIdent, MayBeRaw};
+ghost use Rattle.bridge_text.specs.inside.Tables.{rises};
 
 use crate::text::{NoMemory, Text};
 use std::alloc::{AllocError, Global};
@@ -29,7 +29,7 @@ pub enum IdentFault {
 
 impl From<AllocError> for IdentFault {
     ghost use Rattle.std.specs.Prelude.{◌≡◌};
-    ghost use Rattle.bridge_decl.specs.declared.idents.IdentFault.{IdentFault};
+    ghost use Rattle.bridge_text.specs.declared.idents.IdentFault.{IdentFault};
 
     ghost from_gives = { λ _ fault. fault ≡ IdentFault.NoMemory };
 
@@ -46,7 +46,7 @@ pub struct IdentBuf {
 
 impl Model for IdentBuf {
     ghost use Rattle.std.specs.Prelude.{List, ℕ};
-    ghost use Rattle.bridge_decl.specs.Ident.{IsIdent};
+    ghost use Rattle.bridge_text.specs.Ident.{IsIdent};
 
     ghost Value = { List ℕ };
 

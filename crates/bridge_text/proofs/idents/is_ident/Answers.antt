@@ -1,6 +1,6 @@
 use Rattle.std.proofs.Common.{◌++◌, codes, ap, sym, ◌∙◌}
-use Rattle.bridge_decl.proofs.IdentLemmas.{stripped}
-use Rattle.bridge_decl.proofs.idents.is_ident.Goals as goal
+use Rattle.bridge_text.proofs.IdentLemmas.{stripped}
+use Rattle.bridge_text.proofs.idents.is_ident.Goals as goal
 
 pub returns-in-Some : goal.returns-in-Some
 returns-in-Some c =

@@ -2,7 +2,7 @@
 use Rattle.std.proofs.Common.{◌≡◌, ℕ, zero, suc, ◌+◌, ◌≢◌, Bool, true, false, ◌&&◌, not, List, [], ◌∷◌, map, length, get_or}
 use Rattle.std.proofs.Common.{IsTrue, ◌↔◌, refl, ap, ◌∙◌, arith, Bor, ◌⊎◌, inl, inr}
 use Rattle.std.specs.Prelude.{Result, Ok, Err, is_ok, Contains, All}
-use Rattle.bridge_decl.specs.inside.Tables.{rises}
+use Rattle.bridge_text.specs.inside.Tables.{rises}
 use Rattle.std.specs.declared.cmp.Ordering.TheVariants.{Less, Greater}
 use Rattle.std.specs.Cmp.Lexicographic.{slice_cmp}
 use Rattle.std.specs.Ordering.{nat_cmp, is_lt}

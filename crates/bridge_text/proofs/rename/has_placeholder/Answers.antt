@@ -1,7 +1,7 @@
 use Rattle.std.proofs.lemmas.Str.Pattern.{contains_text}
-use Rattle.bridge_decl.specs.Rename.{placeholder}
-use Rattle.bridge_decl.proofs.RenameLemmas.{count-positive}
-use Rattle.bridge_decl.proofs.rename.has_placeholder.Goals as goal
+use Rattle.bridge_text.specs.Rename.{placeholder}
+use Rattle.bridge_text.proofs.RenameLemmas.{count-positive}
+use Rattle.bridge_text.proofs.rename.has_placeholder.Goals as goal
 
 pub returns : goal.returns
 returns c =

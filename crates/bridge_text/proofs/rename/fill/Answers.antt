@@ -1,9 +1,9 @@
 use Rattle.std.proofs.Common.{None, sym, subst}
 use Rattle.std.proofs.lemmas.Result.{IfOk-weaker}
 use Rattle.std.proofs.lemmas.Str.Pattern.{split_text_parts}
-use Rattle.bridge_decl.specs.Rename.{placeholder, IsFilled}
-use Rattle.bridge_decl.proofs.RenameLemmas.{cut_whole, filled, unfilled}
-use Rattle.bridge_decl.proofs.rename.fill.Goals as goal
+use Rattle.bridge_text.specs.Rename.{placeholder, IsFilled}
+use Rattle.bridge_text.proofs.RenameLemmas.{cut_whole, filled, unfilled}
+use Rattle.bridge_text.proofs.rename.fill.Goals as goal
 
 pub returns-in-Some : goal.returns-in-Some
 returns-in-Some c =

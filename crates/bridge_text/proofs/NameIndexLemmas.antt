@@ -11,8 +11,7 @@ use Rattle.std.proofs.lemmas.List.{map_more, length-map}
 use Rattle.std.proofs.lemmas.Option.{slice_get_within, get_or_from_slice_get, slice_get_read}
 use Rattle.std.proofs.lemmas.Slice.Eq.{bytes_eq-Decides}
 use Rattle.std.proofs.lemmas.Map.Text.{is_eq-slice_cmp}
-use Rattle.bridge_decl.specs.Lifetimes.{AreDistinct}
-use Rattle.bridge_decl.specs.NameIndex.{meaning_of, number_of, HasMeanings, Indexes}
+use Rattle.bridge_text.specs.NameIndex.{AreDistinct, meaning_of, number_of, HasMeanings, Indexes}
 
 -- texts that the test finds equal are one
 pub same_text : (a b : List ℕ) → bytes_eq a b ≡ true → a ≡ b

@@ -1,0 +1,4 @@
+pub mod Ident
+pub mod NameIndex
+pub mod Rename
+pub mod inside
