@@ -1,0 +1,6 @@
+//! Worked examples.
+
+mod idents;
+mod ids;
+mod owners;
+mod primitives;
