@@ -1,7 +1,7 @@
 //! The names of definitions.
 
 ghost use Rattle.std.specs.Prelude.{◌≡◌, IfOk, Some};
-ghost use Rattle.bridge_decl.specs.Ident.{IsIdent};
+ghost use Rattle.bridge_text.specs.Ident.{IsIdent};
 
 use bridge_decl::{IdentBuf, NoMemory};
 use std::alloc::Global;
