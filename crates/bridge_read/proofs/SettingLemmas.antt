@@ -4,9 +4,9 @@ use Rattle.std.proofs.lemmas.List.{take_more}
 use Rattle.std.specs.BTreeMap.{insert_entry}
 use Rattle.std.specs.Cmp.Lexicographic.{slice_cmp}
 use Rattle.std.specs.Ordering.{nat_cmp}
-use Rattle.hir_attrs.specs.declared.support.BackendAttrSupport.{BackendAttrSupport}
-use Rattle.hir_attrs.specs.declared.support.flag.SupportFlag.{SupportFlag}
-use Rattle.hir_attrs.specs.Support.{with_flag}
+use Rattle.hir_backends.specs.declared.support.BackendAttrSupport.{BackendAttrSupport}
+use Rattle.hir_backends.specs.declared.support.flag.SupportFlag.{SupportFlag}
+use Rattle.hir_backends.specs.Support.{with_flag}
 use Rattle.serde_json.specs.Data.{Data, Members}
 use Rattle.bridge_read.specs.declared.fault.Fault.{Fault}
 use Rattle.bridge_read.specs.Reading.{◌>>=◌}

@@ -28,7 +28,7 @@ use crate::places::place_pointer;
 use crate::pointer::Pointer;
 use crate::reading::FromForm;
 use bridge_ast::{Env, EnvFault, EnvFaultKind, EnvPlace, NoMemory, Text};
-use hir_attrs::BasicAttributeValidator;
+use hir_backends::BasicAttributeValidator;
 use hir_docs::DocsUrlGenerator;
 use hir_lower::LoweringConfig;
 use serde_json::Value;

@@ -2,7 +2,7 @@
 
 ghost use Rattle.std.specs.Prelude.{◌≡◌, [], ◌∷◌, List};
 ghost use Rattle.serde_json.specs.Data.{Data};
-ghost use Rattle.hir_attrs.specs.Support.{no_flags};
+ghost use Rattle.hir_backends.specs.Support.{no_flags};
 ghost use Rattle.bridge_read.specs.declared.keys.Key.{Key as Name};
 ghost use Rattle.bridge_read.specs.Form.{find_word, read_alone};
 ghost use Rattle.bridge_read.specs.forms.Settings.{backend_names, flag_words, turned_on};
@@ -14,7 +14,7 @@ use crate::keys::Key;
 use crate::objects::{in_member_named, members};
 use crate::reading::{FromForm, text};
 use bridge_ast::{Items, NoMemory, Text};
-use hir_attrs::{BackendAttrSupport, BasicAttributeValidator, SupportFlag};
+use hir_backends::{BackendAttrSupport, BasicAttributeValidator, Names, Pairs, SupportFlag};
 use hir_docs::DocsUrlGenerator;
 use hir_lower::LoweringConfig;
 use serde_json::Value;
@@ -122,14 +122,17 @@ impl FromForm for BasicAttributeValidator {
                 Key::Unstable,
             ],
         )?;
-        let (backend_name, other_backend_names, support) = backend_names(alloc, &mut left)?;
+        let (backend_name, others, support) = backend_names(alloc, &mut left)?;
+        let pairs = left.listed(alloc)?;
+        let features = left.listed(alloc)?;
+        let unstable = left.listed(alloc)?;
         Ok(BasicAttributeValidator {
             backend_name,
             support,
-            other_backend_names,
-            name_values: left.listed(alloc)?,
-            features_enabled: left.listed(alloc)?,
-            semver_unstable_features: left.listed(alloc)?,
+            other_backend_names: Names::new(alloc, others)?,
+            name_values: Pairs::new(alloc, pairs)?,
+            features_enabled: Names::new(alloc, features)?,
+            semver_unstable_features: Names::new(alloc, unstable)?,
         })
     }
 }

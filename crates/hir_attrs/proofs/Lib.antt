@@ -1,1 +1,1 @@
-pub mod Flags
+mod DigitLemmas

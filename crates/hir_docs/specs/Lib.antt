@@ -1,1 +1,3 @@
+pub mod Docs
+pub mod Links
 pub mod Urls

@@ -8,6 +8,10 @@ use Rattle.hir_reports.specs.Rules.{rule_name, pieces}
 use Rattle.hir_reports.specs.declared.places.ErrorContext.{ErrorContext}
 use Rattle.hir_reports.specs.Places.{context_text}
 
+-- a broken rule whose text has no arguments
+abbrev pub plain_error : Rule → LoweringError
+plain_error broken = record { rule = broken; args = [] }
+
 -- a text cut into pieces, with an argument between each two
 abbrev pub woven : List (List ℕ) → List (List ℕ) → List ℕ
 woven [] args = []

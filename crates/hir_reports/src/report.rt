@@ -3,7 +3,7 @@
 ghost use Rattle.std.specs.Prelude.{◌≡◌, IfOk, Some, map};
 ghost use Rattle.std.specs.Fmt.{DisplaysOnOk};
 ghost use Rattle.hir_reports.specs.Rules.{rule_name, pieces};
-ghost use Rattle.hir_reports.specs.Texts.{woven, pieces_around, error_text, place_line, error_line, report_text};
+ghost use Rattle.hir_reports.specs.Texts.{plain_error, woven, pieces_around, error_text, place_line, error_line, report_text};
 ghost use Rattle.hir_reports.specs.Places.{location_text};
 
 use crate::places::ErrorContext;
@@ -22,6 +22,16 @@ pub struct LoweringError {
 }
 
 impl LoweringError {
+    /// The error without arguments. It takes no memory.
+    pub fn plain(alloc: Global, rule: Rule) -> LoweringError
+        ensures { result ≡ plain_error rule }
+    {
+        LoweringError {
+            rule,
+            args: Items::new(alloc),
+        }
+    }
+
     /// The error with copies of these arguments. `NoMemory` where there is no memory for them.
     pub fn new(alloc: Global, rule: Rule, args: &[&str]) -> Result<LoweringError, NoMemory>
         ensures { IfOk result

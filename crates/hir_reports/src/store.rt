@@ -57,7 +57,7 @@ fn owned_list(alloc: Global, texts: &[Text]) -> Result<Items<Text>, NoMemory>
 }
 
 impl<'tree> ErrorStore<'tree> {
-    ghost use Rattle.hir_reports.specs.Store.{nowhere, at_module, at_item, at_subitem, gained};
+    ghost use Rattle.hir_reports.specs.Store.{Held, Keeps, nowhere, at_module, at_item, at_subitem, gained};
 
     /// No reports, and the root module as the place.
     pub fn new(alloc: Global) -> Self
@@ -107,6 +107,7 @@ impl<'tree> ErrorStore<'tree> {
     pub fn push(&mut self, error: LoweringError) -> Result<(), NoMemory>
         ensures ok { OnOk result (self.new ≡ gained self.old error) }
         ensures err { OnErr result (self.new ≡ self.old) }
+        ensures kept { (earlier : Held) → Keeps earlier self.old → Keeps earlier self.new }
     {
         let context = ErrorContext {
             module: owned_list(self.alloc, self.module)?,
@@ -131,10 +132,13 @@ impl<'tree> ErrorStore<'tree> {
         self.reports.is_empty()
     }
 
-    /// Leaves the first `len` reports, and the place as it is. It takes no memory, so a caller can go back by it.
+    /// Leaves the first `len` reports, and the place as it is. It takes no memory, so a caller goes back by it: where reports were
+    /// added and the place is the same, the store is as it was when it had that many.
     pub fn truncate(&mut self, len: usize)
         ensures reports { self.new.reports ≡ take len self.old.reports }
         ensures place { self.new.place ≡ self.old.place }
+        ensures back { (earlier : Held) → Keeps earlier self.old → len ≡ length earlier.reports
+            → self.new ≡ earlier }
     {
         self.reports.truncate(len);
     }

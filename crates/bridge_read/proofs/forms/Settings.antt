@@ -1,9 +1,9 @@
 -- The laws of the forms of specs/forms/Settings.
 use Rattle.std.specs.Prelude.{ℕ, List, [], false}
-use Rattle.hir_attrs.specs.declared.support.BackendAttrSupport.{BackendAttrSupport}
-use Rattle.hir_attrs.specs.declared.support.flag.SupportFlag.{SupportFlag}
-use Rattle.hir_attrs.specs.declared.validator.BasicAttributeValidator.{BasicAttributeValidator}
-use Rattle.hir_attrs.specs.Support.{no_flags}
+use Rattle.hir_backends.specs.declared.support.BackendAttrSupport.{BackendAttrSupport}
+use Rattle.hir_backends.specs.declared.support.flag.SupportFlag.{SupportFlag}
+use Rattle.hir_backends.specs.declared.validator.BasicAttributeValidator.{BasicAttributeValidator}
+use Rattle.hir_backends.specs.Support.{no_flags}
 use Rattle.hir_docs.specs.Urls.{BaseUrls}
 use Rattle.hir_lower.specs.declared.config.LoweringConfig.{LoweringConfig}
 use Rattle.bridge_read.specs.declared.keys.Key.TheVariants as key

@@ -1,8 +1,8 @@
 -- The whole input: its declarations, the backend, the configuration, and where documentation lies.
 use Rattle.std.specs.Prelude.{List, []}
 use Rattle.bridge_decl.specs.declared.modules.Module.{Module}
-use Rattle.hir_attrs.specs.Validator.{plain_validator}
-use Rattle.hir_attrs.specs.declared.validator.BasicAttributeValidator.{BasicAttributeValidator}
+use Rattle.hir_backends.specs.Validator.{plain_validator}
+use Rattle.hir_backends.specs.declared.validator.BasicAttributeValidator.{BasicAttributeValidator}
 use Rattle.hir_docs.specs.Urls.{BaseUrls}
 use Rattle.hir_lower.specs.declared.config.LoweringConfig.{LoweringConfig}
 use Rattle.bridge_read.specs.declared.input.Declared.{Declared}

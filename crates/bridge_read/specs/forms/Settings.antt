@@ -3,10 +3,10 @@ use Rattle.std.specs.Prelude.{ℕ, List, [], ◌∷◌, map, Bool, false, Option
 use Rattle.std.specs.BTreeMap.{insert_entry}
 use Rattle.std.specs.Cmp.Lexicographic.{slice_cmp}
 use Rattle.std.specs.Ordering.{nat_cmp}
-use Rattle.hir_attrs.specs.declared.support.BackendAttrSupport.{BackendAttrSupport}
-use Rattle.hir_attrs.specs.declared.support.flag.SupportFlag.{SupportFlag}
-use Rattle.hir_attrs.specs.declared.validator.BasicAttributeValidator.{BasicAttributeValidator}
-use Rattle.hir_attrs.specs.Support.{every_flag, flag_text, no_flags, with_flag}
+use Rattle.hir_backends.specs.declared.support.BackendAttrSupport.{BackendAttrSupport}
+use Rattle.hir_backends.specs.declared.support.flag.SupportFlag.{SupportFlag}
+use Rattle.hir_backends.specs.declared.validator.BasicAttributeValidator.{BasicAttributeValidator}
+use Rattle.hir_backends.specs.Support.{every_flag, flag_text, no_flags, with_flag}
 use Rattle.hir_docs.specs.Urls.{BaseUrls}
 use Rattle.hir_lower.specs.declared.config.LoweringConfig.{LoweringConfig}
 use Rattle.bridge_read.specs.declared.keys.Key.TheVariants as key

@@ -1,6 +1,6 @@
 use Rattle.std.proofs.Common.{sym}
-use Rattle.hir_attrs.specs.Support.{flag_text}
-use Rattle.hir_attrs.specs.declared.support.flag.SupportFlag.TheVariants.{Namespacing}
+use Rattle.hir_backends.specs.Support.{flag_text}
+use Rattle.hir_backends.specs.declared.support.flag.SupportFlag.TheVariants.{Namespacing}
 use Rattle.bridge_read.proofs.WordLemmas.{found_at, none_after}
 use Rattle.bridge_read.proofs.settings.flag_called.Goals as goal
 

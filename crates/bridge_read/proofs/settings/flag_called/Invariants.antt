@@ -1,5 +1,5 @@
 use Rattle.std.proofs.Common.{◌≡◌, map, take, None}
-use Rattle.hir_attrs.specs.Support.{flag_text}
+use Rattle.hir_backends.specs.Support.{flag_text}
 use Rattle.bridge_read.specs.Form.{find_word}
 use Rattle.bridge_read.proofs.settings.flag_called.Given as goal
 

@@ -1,5 +1,5 @@
 use Rattle.std.proofs.Common.{◌≡◌, take}
-use Rattle.hir_attrs.specs.Support.{no_flags}
+use Rattle.hir_backends.specs.Support.{no_flags}
 use Rattle.bridge_read.specs.forms.Settings.{turned_on}
 use Rattle.bridge_read.proofs.settings.turned_on.Given as goal
 
