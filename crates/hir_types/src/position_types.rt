@@ -1,6 +1,6 @@
 //! What positions make of callbacks and of paths to traits.
 
-ghost use Rattle.std.specs.Prelude.{◌≡◌, IsSome, None, Some, Option, option_copied};
+ghost use Rattle.std.specs.Prelude.{◌≡◌, None, Some, Option, option_copied};
 ghost use Rattle.std.proofs.Common.{rules};
 ghost use Rattle.hir_types.specs.Callbacks.{of_some};
 ghost use Rattle.hir_types.specs.declared.callbacks.Callback.{Callback};
