@@ -3,7 +3,7 @@ use Rattle.std.proofs.Common.{◌≡◌, ℕ, ◌+◌, ◌-◌, ◌*◌, ◌≤�
 use Rattle.std.specs.Prelude.{nat_le}
 use Rattle.std.specs.List.{list_all}
 use Rattle.std.proofs.lemmas.Bool.{le-leb, lt-leb, leb-true, leb-false}
-use Rattle.hir_attrs.specs.Values.{most_integer, is_digit, number_after, integer_of}
+use Rattle.hir_attrs.specs.Values.{most_integer, is_digit, number_after, written_integer}
 use Rattle.hir_attrs.specs.inside.Digits.{next_value, then_next, value_from}
 
 -- what isn't a number stays none
@@ -47,6 +47,6 @@ reads number (byte ∷ bytes) small =
     (reads (number * 10 + (byte - 48)) bytes)
 
 -- what is read of a text that isn't empty is the number that it writes
-pub reads_number : (text : List ℕ) → (length text == 0) ≡ false → value_from (Some 0) text ≡ integer_of text
+pub reads_number : (text : List ℕ) → (length text == 0) ≡ false → value_from (Some 0) text ≡ written_integer text
 reads_number [] named = absurd (true≢false named)
 reads_number (digit ∷ digits) named = reads 0 (digit ∷ digits) (omega arith)

@@ -14,14 +14,14 @@ use Rattle.hir_attrs.specs.declared.includes.IncludeSource.TheVariants as source
 use Rattle.hir_attrs.specs.declared.includes.Parts.{Parts}
 
 -- the name of a location
-unfoldable pub location_text : IncludeLocation → List ℕ
-location_text location.PreDefBlock = codes "pre_def_block"
-location_text location.DefBlock = codes "def_block"
-location_text location.PostDefBlock = codes "post_def_block"
-location_text location.ImplBlock = codes "impl_block"
-location_text location.PreImplBlock = codes "pre_impl_block"
-location_text location.PreInitializationBlock = codes "pre_init_block"
-location_text location.InitializationBlock = codes "init_block"
+unfoldable pub location_word : IncludeLocation → List ℕ
+location_word location.PreDefBlock = codes "pre_def_block"
+location_word location.DefBlock = codes "def_block"
+location_word location.PostDefBlock = codes "post_def_block"
+location_word location.ImplBlock = codes "impl_block"
+location_word location.PreImplBlock = codes "pre_impl_block"
+location_word location.PreInitializationBlock = codes "pre_init_block"
+location_word location.InitializationBlock = codes "init_block"
 
 -- all locations
 unfoldable pub every_location : List IncludeLocation
@@ -36,7 +36,7 @@ every_location =
     ∷ []
 
 abbrev pub is_location_called : List ℕ → IncludeLocation → Bool
-is_location_called name it = bytes_eq (location_text it) name
+is_location_called name it = bytes_eq (location_word it) name
 
 -- the location of a name, if there is one
 abbrev pub location_named : List ℕ → Option IncludeLocation

@@ -13,12 +13,12 @@ use Rattle.hir_reports.specs.declared.report.LoweringError.{LoweringError}
 use Rattle.hir_reports.specs.declared.rule.Rule.{Rule}
 use Rattle.hir_reports.specs.declared.rule.Rule.TheVariants as rule
 use Rattle.hir_backends.specs.Backend.{Backend}
-use Rattle.hir_backends.specs.Conditions.{met, fault_rule}
+use Rattle.hir_backends.specs.Conditions.{condition_met, fault_rule}
 use Rattle.hir_backends.specs.Support.{checked, flag_on}
 use Rattle.hir_backends.specs.declared.conditions.Met.{Met}
 use Rattle.hir_backends.specs.declared.conditions.Met.TheVariants.{Holds, Fails, Faulty}
 use Rattle.hir_backends.specs.declared.support.flag.SupportFlag.{SupportFlag}
-use Rattle.hir_attrs.specs.Includes.{include_of, is_location_called, location_text}
+use Rattle.hir_attrs.specs.Includes.{include_of, is_location_called, location_word}
 use Rattle.hir_attrs.specs.Marks.{mark_text, mark_named, mark_flag, mark_form, refuses_auto, is_set, with_mark}
 use Rattle.hir_attrs.specs.Special.{SpecialReading, special_reading}
 use Rattle.hir_attrs.specs.Values.{default_of}
@@ -49,15 +49,15 @@ changed (change.Defaults value) attrs = record attrs { default_value = Some valu
 
 -- ---- what a mark is read as: a change, and up to two broken rules in order
 
-abbrev pub only : Change → Reading
-only it = record { change = it; first = None; second = None }
+abbrev pub change_alone : Change → Reading
+change_alone it = record { change = it; first = None; second = None }
 
 -- a mark that is skipped, without a report or with one
 abbrev pub skipped : Reading
-skipped = only change.Nothing
+skipped = change_alone change.Nothing
 
-abbrev pub told : LoweringError → Reading
-told error = record { change = change.Nothing; first = Some error; second = None }
+abbrev pub error_alone : LoweringError → Reading
+error_alone error = record { change = change.Nothing; first = Some error; second = None }
 
 -- a broken rule about a mark of that name
 abbrev pub about : Rule → List ℕ → LoweringError
@@ -73,16 +73,16 @@ when false error = None
 -- a mark that the backend doesn't support; under `auto` it is left out without a report
 abbrev pub unsupported : Backend → Bool → List ℕ → Reading
 unsupported backend true name = skipped
-unsupported backend false name = told (record { rule = rule.MarkUnsupported; args = name ∷ backend.primary_name ∷ [] })
+unsupported backend false name = error_alone (record { rule = rule.MarkUnsupported; args = name ∷ backend.primary_name ∷ [] })
 
 abbrev pub wrong_argument : List ℕ → Reading
-wrong_argument name = told (about rule.MarkArgument name)
+wrong_argument name = error_alone (about rule.MarkArgument name)
 
 -- ---- special methods: one a method, the first
 
 abbrev pub specialized : Option SpecialMethod → List ℕ → SpecialMethod → Reading
-specialized None name it = only (change.Specializes it)
-specialized (Some earlier) name it = told (about rule.SecondSpecial name)
+specialized None name it = change_alone (change.Specializes it)
+specialized (Some earlier) name it = error_alone (about rule.SecondSpecial name)
 
 -- ---- the other marks, by what they take
 
@@ -95,9 +95,9 @@ text_in (Literal (Str text)) = Some text
 text_in _ = None
 
 -- a pattern has one place for the name at most
-abbrev pub pattern_if : Option (List ℕ) → Option (List ℕ)
-pattern_if None = None
-pattern_if (Some text) = if nat_le (placeholder_count text) 1 then Some text else None
+abbrev pub renaming_pattern : Option (List ℕ) → Option (List ℕ)
+renaming_pattern None = None
+renaming_pattern (Some text) = if nat_le (placeholder_count text) 1 then Some text else None
 
 abbrev pub literal_in : MetaValue → Option Lit
 literal_in (Literal it) = Some it
@@ -121,19 +121,19 @@ space_of (c ∷ cs) = Some (c ∷ cs)
 
 abbrev pub spaced : MarkName → Option (List ℕ) → Reading
 spaced it None = wrong_argument (mark_text it)
-spaced it (Some text) = only (change.Names (space_of text))
+spaced it (Some text) = change_alone (change.Names (space_of text))
 
 -- whether a place has its code already
 abbrev pub has_location : IncludeLocation → List (IncludeLocation × IncludeSource) → Bool
-has_location it includes = list_any (λ include. is_location_called (location_text it) include.0) includes
+has_location it includes = list_any (λ include. is_location_called (location_word it) include.0) includes
 
 abbrev pub included : Attrs → Option (IncludeLocation × IncludeSource) → Reading
-included attrs None = told (plain_error rule.BadInclude)
-included attrs (Some pair) = if has_location pair.0 attrs.custom_extra_code then told (plain_error rule.IncludeRepeated) else only (change.Includes pair.0 pair.1)
+included attrs None = error_alone (plain_error rule.BadInclude)
+included attrs (Some pair) = if has_location pair.0 attrs.custom_extra_code then error_alone (plain_error rule.IncludeRepeated) else change_alone (change.Includes pair.0 pair.1)
 
 abbrev pub valued : Option DefaultArgValue → Reading
-valued None = told (plain_error rule.BadDefaultValue)
-valued (Some value) = only (change.Defaults value)
+valued None = error_alone (plain_error rule.BadDefaultValue)
+valued (Some value) = change_alone (change.Defaults value)
 
 abbrev pub defaulted : MarkName → Option Lit → Reading
 defaulted it None = wrong_argument (mark_text it)
@@ -141,8 +141,8 @@ defaulted it (Some literal) = valued (default_of literal)
 
 abbrev pub read_form : Form → Bool → Attrs → MarkName → MetaValue → Reading
 read_form form.Once by_auto attrs it value = read_once by_auto attrs it value
-read_form form.Plain by_auto attrs it value = only (change.Marks it)
-read_form form.Pattern by_auto attrs it value = renamed by_auto it (pattern_if (text_in value))
+read_form form.Plain by_auto attrs it value = change_alone (change.Marks it)
+read_form form.Pattern by_auto attrs it value = renamed by_auto it (renaming_pattern (text_in value))
 read_form form.Text by_auto attrs it value = spaced it (text_in value)
 read_form form.Include by_auto attrs it value = included attrs (include_of value)
 read_form form.Value by_auto attrs it value = defaulted it (literal_in value)
@@ -154,7 +154,7 @@ is_denied backend (Some it) = not (flag_on backend.supports it)
 
 -- a name that no special method has
 abbrev pub read_name : Backend → Bool → Attrs → List ℕ → MetaValue → Option MarkName → Reading
-read_name backend by_auto attrs name value None = told (about rule.UnknownMark name)
+read_name backend by_auto attrs name value None = error_alone (about rule.UnknownMark name)
 read_name backend by_auto attrs name value (Some it) = if is_denied backend (mark_flag it) then unsupported backend by_auto name else read_form (mark_form it) by_auto attrs it value
 
 abbrev pub read_special : Backend → Bool → Attrs → List ℕ → MetaValue → SpecialReading → Reading
@@ -180,10 +180,10 @@ read_path backend by_auto attrs _ value = skipped
 abbrev pub read_met : Backend → Attrs → DiplomatBackendAttr → Met → Reading
 read_met backend attrs it (Holds by_auto) = read_path backend by_auto attrs it.meta.path it.meta.value
 read_met backend attrs it Fails = skipped
-read_met backend attrs it (Faulty fault) = told (plain_error (fault_rule fault))
+read_met backend attrs it (Faulty fault) = error_alone (plain_error (fault_rule fault))
 
 abbrev pub read_mark : Backend → Attrs → DiplomatBackendAttr → Reading
-read_mark backend attrs it = read_met backend attrs it (met backend it.cfg true)
+read_mark backend attrs it = read_met backend attrs it (condition_met backend it.cfg true)
 
 -- ---- the marks of a declaration, in order
 
@@ -196,12 +196,12 @@ errors_from backend attrs [] = []
 errors_from backend attrs (it ∷ marks) = reading_errors (read_mark backend attrs it) ++ errors_from backend (changed (read_mark backend attrs it).change attrs) marks
 
 -- the set that a declaration begins with: that of its parent, and its own notes and features
-abbrev pub begun : Backend → Declared → Attrs → Attrs
-begun backend declared parent = record parent { abi_rename = declared.abi_rename; deprecated = declared.deprecated; unstable = parent.unstable || list_any backend.is_unstable declared.features }
+abbrev pub first_set : Backend → Declared → Attrs → Attrs
+first_set backend declared parent = record parent { abi_rename = declared.abi_rename; deprecated = declared.deprecated; unstable = parent.unstable || list_any backend.is_unstable declared.features }
 
 -- the set of a declaration, and the rules that its marks break
 abbrev pub marks_of : Backend → Declared → Attrs → Attrs
-marks_of backend declared parent = marks_from backend (begun backend declared parent) declared.marks
+marks_of backend declared parent = marks_from backend (first_set backend declared parent) declared.marks
 
 abbrev pub marks_errors : Backend → Declared → Attrs → List LoweringError
-marks_errors backend declared parent = errors_from backend (begun backend declared parent) declared.marks
+marks_errors backend declared parent = errors_from backend (first_set backend declared parent) declared.marks

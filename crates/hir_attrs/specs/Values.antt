@@ -19,9 +19,9 @@ number_after number [] = number
 number_after number (digit ∷ digits) = number_after (number * 10 + (digit - 48)) digits
 
 -- the number that a text writes, where it is one or more decimal digits and the number isn't above the greatest
-abbrev pub integer_of : List ℕ → Option ℕ
-integer_of [] = None
-integer_of (digit ∷ digits) =
+abbrev pub written_integer : List ℕ → Option ℕ
+written_integer [] = None
+written_integer (digit ∷ digits) =
     if list_all is_digit (digit ∷ digits) && nat_le (number_after 0 (digit ∷ digits)) most_integer
     then Some (number_after 0 (digit ∷ digits)) else None
 
@@ -30,7 +30,7 @@ abbrev pub default_of : Lit → Option DefaultArgValue
 default_of (lit.Bool value) = Some (default.Bool value)
 default_of (lit.Char value) = Some (default.Char value)
 default_of (lit.Byte value) = Some (default.Char value)
-default_of (lit.Int digits) = option_map (λ number. default.Integer (pos number)) (integer_of digits)
+default_of (lit.Int digits) = option_map (λ number. default.Integer (pos number)) (written_integer digits)
 default_of lit.Float = None
 default_of (lit.Str text) = None
 default_of lit.Other = None

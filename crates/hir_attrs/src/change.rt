@@ -3,7 +3,7 @@
 ghost use Rattle.std.specs.Prelude.{◌≡◌, OnOk, Some, None};
 ghost use Rattle.hir_attrs.specs.declared.change.Change.{Change};
 ghost use Rattle.hir_attrs.specs.Marks.{with_mark};
-ghost use Rattle.hir_attrs.specs.Reading.{changed, only, skipped, told};
+ghost use Rattle.hir_attrs.specs.Reading.{change_alone, changed, error_alone, skipped};
 
 use crate::attrs::Attrs;
 use crate::includes::{IncludeLocation, IncludeSource};
@@ -46,7 +46,7 @@ pub struct Reading {
 impl Reading {
     /// A change alone.
     pub fn only(change: Change) -> Reading
-        ensures { result ≡ only change }
+        ensures { result ≡ change_alone change }
     {
         Reading {
             change,
@@ -64,7 +64,7 @@ impl Reading {
 
     /// A broken rule alone.
     pub fn told(error: LoweringError) -> Reading
-        ensures { result ≡ told error }
+        ensures { result ≡ error_alone error }
     {
         Reading {
             change: Change::Nothing,

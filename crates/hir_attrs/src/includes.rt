@@ -1,7 +1,7 @@
 //! Code that is written by hand and included in what is generated.
 
 ghost use Rattle.std.specs.Prelude.{◌≡◌, IfOk, Some, find};
-ghost use Rattle.hir_attrs.specs.Includes.{every_location, include_of, is_location_called, location_named, location_text, no_parts, pair_of_parts, parts_from, with_next, with_part, with_text};
+ghost use Rattle.hir_attrs.specs.Includes.{every_location, include_of, is_location_called, location_named, location_word, no_parts, pair_of_parts, parts_from, with_next, with_part, with_text};
 
 use bridge_decl::{Assign, Lit, MetaValue, NoMemory, Text};
 use std::alloc::Global;
@@ -48,9 +48,9 @@ pub enum IncludeLocation {
 
 impl IncludeLocation {
     /// The name by which a mark spells it.
-    #[tactic(auto, unfolding(crate::specs::Includes::location_text))]
+    #[tactic(auto, unfolding(crate::specs::Includes::location_word))]
     pub fn text(self) -> &'static str
-        ensures { result.now ≡ location_text self }
+        ensures { result.now ≡ location_word self }
     {
         match self {
             IncludeLocation::PreDefBlock => "pre_def_block",

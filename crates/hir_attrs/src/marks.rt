@@ -5,7 +5,7 @@ ghost use Rattle.std.specs.Option.{option_copied};
 ghost use Rattle.hir_attrs.specs.Includes.{include_of};
 ghost use Rattle.hir_attrs.specs.Marks.{mark_form, mark_named};
 ghost use Rattle.hir_attrs.specs.Special.{special_reading};
-ghost use Rattle.hir_attrs.specs.Reading.{about, defaulted, has_location, included, is_denied, is_refused, literal_in, no_argument, pattern_if, read_form, read_mark, read_name, read_named, read_once, read_special, renamed, spaced, space_of, specialized, text_in, unsupported, when, wrong_argument};
+ghost use Rattle.hir_attrs.specs.Reading.{about, defaulted, has_location, included, is_denied, is_refused, literal_in, no_argument, renaming_pattern, read_form, read_mark, read_name, read_named, read_once, read_special, renamed, spaced, space_of, specialized, text_in, unsupported, when, wrong_argument};
 ghost use Rattle.hir_backends.specs.Support.{checked};
 
 use crate::attrs::Attrs;
@@ -120,7 +120,7 @@ fn read_once(
 /// The pattern that a string is. None where it has more than one place for the name.
 fn pattern_of(alloc: Global, text: &Text) -> Result<Option<RenameAttr>, NoMemory>
     ensures { IfOk result (λ pattern. pattern
-        ≡ option_map (λ text. Some text) (pattern_if (Some text.now))) }
+        ≡ option_map (λ text. Some text) (renaming_pattern (Some text.now))) }
 {
     match RenameAttr::new(alloc, text.as_str()) {
         Ok(pattern) => Ok(Some(pattern)),
@@ -137,7 +137,7 @@ fn read_pattern(
     value: &MetaValue,
 ) -> Result<Reading, NoMemory>
     ensures { IfOk result
-        (λ reading. reading ≡ renamed by_auto mark (pattern_if (text_in value.now))) }
+        (λ reading. reading ≡ renamed by_auto mark (renaming_pattern (text_in value.now))) }
 {
     let Some(text) = text_in(value) else {
         return wrong_argument(alloc, mark.text());

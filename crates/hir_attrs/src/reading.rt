@@ -3,7 +3,7 @@
 ghost use Rattle.std.specs.Prelude.{◌≡◌, IfOk, OnOk, OnErr, option_to_list};
 ghost use Rattle.std.specs.List.{list_any};
 ghost use Rattle.hir_reports.specs.Store.{Held, Keeps, added};
-ghost use Rattle.hir_attrs.specs.Reading.{begun, changed, errors_from, marks_errors, marks_from, marks_of, read_mark, reading_errors};
+ghost use Rattle.hir_attrs.specs.Reading.{first_set, changed, errors_from, marks_errors, marks_from, marks_of, read_mark, reading_errors};
 
 use crate::attrs::Attrs;
 use crate::change::Reading;
@@ -98,7 +98,7 @@ fn begun<V: AttributeValidator>(
     v: &V,
     parent: Attrs,
 ) -> Result<Attrs, NoMemory>
-    ensures { IfOk result (λ attrs. attrs ≡ begun (V.meaning v.now) decl.now parent) }
+    ensures { IfOk result (λ attrs. attrs ≡ first_set (V.meaning v.now) decl.now parent) }
 {
     let abi_rename = decl.abi_rename.try_clone(alloc)?;
     let deprecated = clone_option(alloc, &decl.deprecated, Text::try_clone)?;

@@ -1,7 +1,7 @@
 //! The values that parameters have by default.
 
 ghost use Rattle.std.specs.Prelude.{◌≡◌, ◌≤◌, IfSome, Some, pos};
-ghost use Rattle.hir_attrs.specs.Values.{default_of, integer_of, is_digit, most_integer};
+ghost use Rattle.hir_attrs.specs.Values.{default_of, written_integer, is_digit, most_integer};
 ghost use Rattle.hir_attrs.specs.inside.Digits.{next_value, value_from};
 
 use bridge_decl::Lit;
@@ -61,7 +61,7 @@ fn read_digits(text: &str) -> Option<u128>
 /// The number that a text writes. None where it isn't one or more decimal digits, or the number is above the greatest.
 #[tactic(auto, using(crate::proofs::DigitLemmas::reads_number))]
 fn read_integer(text: &str) -> Option<u128>
-    ensures value { result ≡ integer_of text.now }
+    ensures value { result ≡ written_integer text.now }
     ensures least { IfSome result (λ value. value ≤ most_integer) }
 {
     if text.is_empty() {

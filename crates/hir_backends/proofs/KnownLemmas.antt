@@ -14,7 +14,7 @@ use Rattle.std.specs.Ordering.{nat_cmp, ordering_index, ordering_reverse, orderi
 use Rattle.std.proofs.lemmas.List.Sorted.{IsNonDecreasingBy-from_all_adjacent, list_any-IsPermutation}
 use Rattle.std.proofs.lemmas.List.Folds.{list_any_at, list_any_none}
 use Rattle.hir_backends.specs.Known.{is_named, is_paired}
-use Rattle.hir_backends.specs.inside.Sorted.{IsSortedCopy, pair_cmp}
+use Rattle.hir_backends.specs.inside.Sorted.{IsSortedCopy, texts_cmp}
 
 -- tests that agree on each element agree on a list
 list_any_alike : {T : Type 0} (p q : T → Bool) → ((x : T) → p x ≡ q x) → (xs : List T) → list_any p xs ≡ list_any q xs
@@ -63,7 +63,7 @@ name_found name items sorted r copy within searched =
     found_by_halving (slice_cmp nat_cmp) nat_list_cmp_total name items sorted r copy within searched
     ∙ list_any_alike (λ y. is_eq (slice_cmp nat_cmp y name)) (λ y. bytes_eq y name) (λ y. is_eq-slice_cmp y name) items
 
-pair_total : IsTotalOrder pair_cmp
+pair_total : IsTotalOrder texts_cmp
 pair_total = then_total (on_total (λ pair. pair.0) nat_list_cmp_total) (on_total (λ pair. pair.1) nat_list_cmp_total)
 
 both_equal : (first second : Ordering) → is_eq (ordering_then first second) ≡ (is_eq first && is_eq second)
@@ -71,10 +71,10 @@ both_equal Less second = refl
 both_equal Equal second = refl
 both_equal Greater second = refl
 
-pub pair_found : (name value : List ℕ) (items sorted : List (List ℕ × List ℕ)) (r : Result ℕ ℕ) → IsSortedCopy pair_cmp items sorted
-    → IsSearchInRange r (length sorted) → IsBinarySearchResult (λ y. pair_cmp y (name, value)) sorted r → is_ok r ≡ is_paired items name value
+pub pair_found : (name value : List ℕ) (items sorted : List (List ℕ × List ℕ)) (r : Result ℕ ℕ) → IsSortedCopy texts_cmp items sorted
+    → IsSearchInRange r (length sorted) → IsBinarySearchResult (λ y. texts_cmp y (name, value)) sorted r → is_ok r ≡ is_paired items name value
 pair_found name value items sorted r copy within searched =
-    found_by_halving pair_cmp pair_total (name, value) items sorted r copy within searched
-    ∙ list_any_alike (λ y. is_eq (pair_cmp y (name, value))) (λ y. bytes_eq y.0 name && bytes_eq y.1 value)
+    found_by_halving texts_cmp pair_total (name, value) items sorted r copy within searched
+    ∙ list_any_alike (λ y. is_eq (texts_cmp y (name, value))) (λ y. bytes_eq y.0 name && bytes_eq y.1 value)
     (λ y. both_equal (slice_cmp nat_cmp y.0 name) (slice_cmp nat_cmp y.1 value) ∙ ap (λ b. b && is_eq (slice_cmp nat_cmp y.1 value)) (is_eq-slice_cmp y.0 name) ∙ ap (λ b. bytes_eq y.0 name && b) (is_eq-slice_cmp y.1 value))
     items

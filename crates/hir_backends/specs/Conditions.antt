@@ -61,14 +61,14 @@ met_step backend (DiplomatBackendAttrCfg-F.BackendName name) allowed = met_plain
 met_step backend (DiplomatBackendAttrCfg-F.NameValue name value) allowed = met_pair (backend.is_name_value name value)
 
 -- what a condition comes to
-abbrev pub met : Backend → DiplomatBackendAttrCfg → Bool → Met
-met backend = fold-DiplomatBackendAttrCfg (Bool → Met) (met_step backend)
+abbrev pub condition_met : Backend → DiplomatBackendAttrCfg → Bool → Met
+condition_met backend = fold-DiplomatBackendAttrCfg (Bool → Met) (met_step backend)
 
 -- that as an answer
-abbrev pub answered : Met → Result Bool CfgFault
-answered (Holds by_auto) = Ok true
-answered Fails = Ok false
-answered (Faulty fault) = Err fault
+abbrev pub answer_of : Met → Result Bool CfgFault
+answer_of (Holds by_auto) = Ok true
+answer_of Fails = Ok false
+answer_of (Faulty fault) = Err fault
 
 -- whether `auto` is what meets the condition
 abbrev pub is_by_auto : Met → Bool

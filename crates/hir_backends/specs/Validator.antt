@@ -20,13 +20,13 @@ plain_validator name =
     }
 
 -- whether the flag of that name is on; none where no flag has the name
-abbrev pub supported : BackendAttrSupport → List ℕ → Option Bool
-supported support name = option_map (flag_on support) (flag_named name)
+abbrev pub flag_support : BackendAttrSupport → List ℕ → Option Bool
+flag_support support name = option_map (flag_on support) (flag_named name)
 
 -- what a pair comes to: `supports` asks for a flag, `feature` for an enabled feature, and any other name for a pair that is known
 abbrev pub basic_pair : BasicAttributeValidator → List ℕ → List ℕ → Option Bool
 basic_pair backend name value =
-    if bytes_eq name (codes "supports") then supported backend.support value else
+    if bytes_eq name (codes "supports") then flag_support backend.support value else
     (if bytes_eq name (codes "feature") then Some (is_named backend.features_enabled value) else
     Some (is_paired backend.name_values name value))
 

@@ -1,7 +1,7 @@
 //! The conditions that marks and documents stand under.
 
 ghost use Rattle.std.specs.Prelude.{◌≡◌, ◌||◌, map, true, false, is_some, option_map, option_to_list, unwrap_or};
-ghost use Rattle.hir_backends.specs.Conditions.{met, settled, leaves_open, left_open, met_pair, met_plain, inverted, answered, is_by_auto, fault_rule, met_errors};
+ghost use Rattle.hir_backends.specs.Conditions.{condition_met, settled, leaves_open, left_open, met_pair, met_plain, inverted, answer_of, is_by_auto, fault_rule, met_errors};
 ghost use Rattle.std.proofs.Common.{inl, inr};
 
 use crate::meanings::AttributeValidator;
@@ -99,7 +99,7 @@ fn left_open(needs_all: bool) -> Met
 /// the first part of `any` that is met, the first of `all` that isn't, and the first fault.
 #[cycle(meets)]
 pub fn meets<V: AttributeValidator>(v: &V, cfg: &DiplomatBackendAttrCfg, allowed: bool) -> Met
-    ensures { result ≡ met (V.meaning v.now) cfg.now allowed }
+    ensures { result ≡ condition_met (V.meaning v.now) cfg.now allowed }
 {
     match cfg {
         DiplomatBackendAttrCfg::Not(inner) => inverted(meets(v, inner.get(), false)),
@@ -124,7 +124,7 @@ fn meets_list<V: AttributeValidator>(
     needs_all: bool,
 ) -> Met
     ensures { result ≡ settled needs_all
-        (map (λ part. part allowed) (map (met (V.meaning v.now)) parts.now)) }
+        (map (λ part. part allowed) (map (condition_met (V.meaning v.now)) parts.now)) }
 {
     for part in parts {
         let part_met = meets(v, part, allowed);
@@ -138,7 +138,7 @@ fn meets_list<V: AttributeValidator>(
 impl Met {
     /// Whether the condition is met, or its fault.
     pub fn answer(self) -> Result<bool, CfgFault>
-        ensures { result ≡ answered self }
+        ensures { result ≡ answer_of self }
     {
         match self {
             Met::Holds(_) => Ok(true),
@@ -183,14 +183,14 @@ pub fn satisfies_cfg<V: AttributeValidator>(
     cfg: &DiplomatBackendAttrCfg,
     auto_found: Option<&mut bool>,
 ) -> Result<bool, CfgFault>
-    ensures answer { result ≡ answered (met (V.meaning v.now) cfg.now
+    ensures answer { result ≡ answer_of (condition_met (V.meaning v.now) cfg.now
         (is_some auto_found.entry)) }
     ensures found { elim auto_found.exit [
       | inl none ↦ Unit {0}
       | inr some ↦ elim some [
         | inl found ↦ found.0.now ≡
             (unwrap_or (option_map (λ found. found.now) auto_found.entry) false
-            || is_by_auto (met (V.meaning v.now) cfg.now true))
+            || is_by_auto (condition_met (V.meaning v.now) cfg.now true))
         | inr no_more ↦ Unit {0}
       ]
     ] }

@@ -8,7 +8,7 @@ ghost use Rattle.std.specs.List.{list_any};
 ghost use Rattle.std.specs.Ordering.{nat_cmp};
 ghost use Rattle.std.specs.Cmp.Lexicographic.{slice_cmp};
 ghost use Rattle.hir_backends.specs.Known.{is_named, is_paired};
-ghost use Rattle.hir_backends.specs.inside.Sorted.{IsSortedCopy, pair_cmp};
+ghost use Rattle.hir_backends.specs.inside.Sorted.{IsSortedCopy, texts_cmp};
 
 use bridge_decl::{Items, NoMemory, Text, clone_items, clone_texts};
 use std::alloc::Global;
@@ -114,13 +114,13 @@ pub struct Pairs {
 
 impl Model for Pairs {
     ghost use Rattle.std.specs.Prelude.{List, ℕ};
-    ghost use Rattle.hir_backends.specs.inside.Sorted.{IsSortedCopy, pair_cmp};
+    ghost use Rattle.hir_backends.specs.inside.Sorted.{IsSortedCopy, texts_cmp};
 
     ghost Value = { List (List ℕ × List ℕ) };
 
     ghost view = { λ it. it.items };
 
-    ghost invariant = { λ it. IsSortedCopy pair_cmp it.items it.sorted.items };
+    ghost invariant = { λ it. IsSortedCopy texts_cmp it.items it.sorted.items };
 }
 
 /// A copy of a pair.
@@ -132,7 +132,7 @@ fn clone_pair(pair: &(Text, Text), alloc: Global) -> Result<(Text, Text), NoMemo
 
 /// Copies of pairs, sorted.
 fn sorted_pairs(alloc: Global, pairs: &[(Text, Text)]) -> Result<Vec<(Text, Text)>, NoMemory>
-    ensures { IfOk result (λ sorted. IsSortedCopy pair_cmp pairs.now sorted.items) }
+    ensures { IfOk result (λ sorted. IsSortedCopy texts_cmp pairs.now sorted.items) }
 {
     let mut sorted = Vec::with_capacity(alloc, pairs.len())?;
     for pair in pairs {
@@ -144,7 +144,7 @@ fn sorted_pairs(alloc: Global, pairs: &[(Text, Text)]) -> Result<Vec<(Text, Text
 
 /// How a pair compares with the pair of two texts: by the names, and by the values where these are the same.
 fn compare(pair: &(Text, Text), name: &str, value: &str) -> Ordering
-    ensures { result ≡ pair_cmp pair.now (name.entry.now, value.entry.now) }
+    ensures { result ≡ texts_cmp pair.now (name.entry.now, value.entry.now) }
 {
     match pair.0.as_str().cmp(name) {
         Ordering::Equal => pair.1.as_str().cmp(value),
@@ -195,7 +195,7 @@ impl Pairs {
         self.sorted
             .binary_search_by(
                 |pair: &(Text, Text)|
-                    ensures { result ≡ pair_cmp pair.now (name.entry.now, value.entry.now) }
+                    ensures { result ≡ texts_cmp pair.now (name.entry.now, value.entry.now) }
                 { compare(pair, name, value) },
             )
             .is_ok()

@@ -2,7 +2,7 @@
 
 ghost use Rattle.std.specs.Prelude.{◌≡◌, ◌↔◌, IfOk, None, codes};
 ghost use Rattle.hir_backends.specs.Support.{flag_named};
-ghost use Rattle.hir_backends.specs.Validator.{plain_validator, basic_meaning, supported};
+ghost use Rattle.hir_backends.specs.Validator.{plain_validator, basic_meaning, flag_support};
 
 use crate::known::{Names, Pairs};
 use crate::meanings::AttributeValidator;
@@ -59,7 +59,7 @@ impl BasicAttributeValidator {
 
     /// Whether the flag of that name is on. None where no flag has the name.
     fn supports(&self, name: &str) -> Option<bool>
-        ensures { result ≡ supported self.now.support name.now }
+        ensures { result ≡ flag_support self.now.support name.now }
     {
         match SupportFlag::named(name) {
             Some(flag) => Some(self.support.has(flag)),

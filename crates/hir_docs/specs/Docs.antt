@@ -8,7 +8,7 @@ use Rattle.hir_reports.specs.declared.report.LoweringError.{LoweringError}
 use Rattle.hir_backends.specs.declared.conditions.Met.{Met}
 use Rattle.hir_backends.specs.declared.conditions.Met.TheVariants.{Holds, Fails, Faulty}
 use Rattle.hir_backends.specs.Backend.{Backend}
-use Rattle.hir_backends.specs.Conditions.{met, met_errors}
+use Rattle.hir_backends.specs.Conditions.{condition_met, met_errors}
 
 -- the lines that are meant for it, and the links to Rust's documentation
 pub record Documented : Type 0 where
@@ -28,7 +28,7 @@ lines_if (Faulty fault) before more = before
 
 -- the lines before a block and those that it adds; `auto` isn't allowed in its condition
 abbrev pub read_lines : Backend → List ℕ → DocBlock → List ℕ
-read_lines backend before block = lines_if (met backend block.cfg false) before block.lines
+read_lines backend before block = lines_if (condition_met backend block.cfg false) before block.lines
 
 -- the lines of blocks, after those before
 abbrev pub lines_from : Backend → List ℕ → List DocBlock → List ℕ
@@ -37,12 +37,12 @@ lines_from backend before (block ∷ blocks) = lines_from backend (read_lines ba
 
 -- what is told of a block: the fault of its condition
 abbrev pub block_errors : Backend → DocBlock → List LoweringError
-block_errors backend block = met_errors (met backend block.cfg false)
+block_errors backend block = met_errors (condition_met backend block.cfg false)
 
 -- what is told of documents, in order
 abbrev pub docs_errors : Backend → Docs → List LoweringError
 docs_errors backend docs = flat_map (block_errors backend) docs.blocks
 
 -- the documents for a backend
-abbrev pub documented : Backend → Docs → Documented
-documented backend docs = record { lines = lines_from backend [] docs.blocks; links = docs.links }
+abbrev pub docs_for : Backend → Docs → Documented
+docs_for backend docs = record { lines = lines_from backend [] docs.blocks; links = docs.links }

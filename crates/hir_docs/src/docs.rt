@@ -3,7 +3,7 @@
 ghost use Rattle.std.specs.Prelude.{◌≡◌, ◌↔◌, [], IsTrue, IfOk, OnOk, OnErr, option_to_list, string_bytes};
 ghost use Rattle.std.specs.List.{flat_map};
 ghost use Rattle.hir_reports.specs.Store.{Held, Keeps, added};
-ghost use Rattle.hir_docs.specs.Docs.{continued, documented, docs_errors, block_errors, lines_from, read_lines};
+ghost use Rattle.hir_docs.specs.Docs.{continued, docs_for, docs_errors, block_errors, lines_from, read_lines};
 
 use bridge_decl::{DocBlock, Items, NoMemory, RustLink, Text, clone_items};
 use hir_backends::{AttributeValidator, Met, meets};
@@ -98,7 +98,7 @@ fn read_docs<V: AttributeValidator>(
     errors: &mut ErrorStore<'_>,
 ) -> Result<Docs, NoMemory>
     ensures made { IfOk result
-        (λ read. read ≡ documented (V.meaning validator.now) docs.now) }
+        (λ read. read ≡ docs_for (V.meaning validator.now) docs.now) }
     ensures told { OnOk result (errors.new
         ≡ added errors.old (docs_errors (V.meaning validator.now) docs.now)) }
     ensures kept { Keeps errors.old errors.new }
@@ -123,7 +123,7 @@ impl Docs {
         validator: &V,
         errors: &mut ErrorStore<'_>,
     ) -> Result<Docs, NoMemory>
-        ensures made { IfOk result (λ docs. docs ≡ documented (V.meaning validator.now) d.now) }
+        ensures made { IfOk result (λ docs. docs ≡ docs_for (V.meaning validator.now) d.now) }
         ensures told { OnOk result (errors.new
             ≡ added errors.old (docs_errors (V.meaning validator.now) d.now)) }
         ensures kept { OnErr result (errors.new ≡ errors.old) }

@@ -4,7 +4,7 @@ ghost use Rattle.std.specs.Prelude.{◌≡◌, ◌++◌, IfOk, Some, codes};
 ghost use Rattle.std.specs.Option.{option_copied};
 ghost use Rattle.std.specs.Fmt.{DisplaysOnOk};
 ghost use Rattle.bridge_decl.specs.Names.{joined};
-ghost use Rattle.hir_reports.specs.Places.{location_text, opening, module_text, inner_text, context_text};
+ghost use Rattle.hir_reports.specs.Places.{location_text, module_opening, module_text, inner_text, context_text};
 
 use bridge_decl::{Items, NoMemory, Text};
 use std::alloc::Global;
@@ -63,7 +63,7 @@ fn put_module<W: fmt::Write>(f: &mut fmt::Formatter<W>, path: &[Text]) -> fmt::R
 
 /// A module with `::` after it; the root has none.
 fn put_opening<W: fmt::Write>(f: &mut fmt::Formatter<W>, path: &[Text]) -> fmt::Result
-    ensures { DisplaysOnOk W.write_str_gives f.old result (Some (opening path.now)) f.new }
+    ensures { DisplaysOnOk W.write_str_gives f.old result (Some (module_opening path.now)) f.new }
 {
     match path {
         [] => Ok(()),
@@ -102,7 +102,7 @@ fn put_within<W: fmt::Write>(
     subitem: Option<&Text>,
 ) -> fmt::Result
     ensures { DisplaysOnOk W.write_str_gives f.old result
-        (Some (opening path.now ++ inner_text item.now (option_copied subitem.entry))) f.new }
+        (Some (module_opening path.now ++ inner_text item.now (option_copied subitem.entry))) f.new }
 {
     put_opening(f, path)?;
     put_inner(f, item, subitem)

@@ -11,5 +11,5 @@ pub record IsSortedCopy {T : Type 0} (cmp : T → T → Ordering) (items sorted 
   pub rising : IsSorted cmp sorted
 
 -- pairs by their names, and by their values where these are the same
-abbrev pub pair_cmp : List ℕ × List ℕ → List ℕ × List ℕ → Ordering
-pair_cmp first second = ordering_then (slice_cmp nat_cmp first.0 second.0) (slice_cmp nat_cmp first.1 second.1)
+abbrev pub texts_cmp : List ℕ × List ℕ → List ℕ × List ℕ → Ordering
+texts_cmp first second = ordering_then (slice_cmp nat_cmp first.0 second.0) (slice_cmp nat_cmp first.1 second.1)

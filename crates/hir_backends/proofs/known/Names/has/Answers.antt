@@ -2,7 +2,7 @@ use Rattle.std.proofs.Common.{◌≡◌, ◌∙◌, rules}
 use Rattle.std.specs.Ordering.{nat_cmp}
 use Rattle.std.specs.Cmp.Lexicographic.{slice_cmp}
 use Rattle.std.proofs.lemmas.Fn.{always_returns_same}
-use Rattle.hir_backends.specs.inside.Sorted.{pair_cmp}
+use Rattle.hir_backends.specs.inside.Sorted.{texts_cmp}
 use Rattle.hir_backends.proofs.KnownLemmas.{name_found}
 use Rattle.hir_backends.proofs.known.Names.has.Goals as goal
 
