@@ -1,0 +1,13 @@
+pub mod NamingLemmas
+pub mod RunLemmas
+pub mod UsesLemmas
+pub mod ShapeLemmas
+pub mod FlatLemmas
+pub mod SignatureLemmas
+pub mod AnswerLemmas
+pub mod FaultLemmas
+pub mod WriterLemmas
+pub mod BreachLemmas
+pub mod ElisionLemmas
+pub mod TypeLemmas
+pub mod WithinLemmas

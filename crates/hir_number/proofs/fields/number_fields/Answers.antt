@@ -1,0 +1,14 @@
+use Rattle.hir_number.proofs.AnswerLemmas.{fields_given}
+use Rattle.hir_number.proofs.ElisionLemmas.{fields_elided}
+use Rattle.hir_number.proofs.fields.number_fields.Goals as goal
+
+pub returns-clause-numbered : goal.returns-clause-numbered
+returns-clause-numbered c = λ names is. (fields_given names c.args.item.now c.number_all_fields.result (c.number_all_fields.ensures names is)).0
+
+pub returns-clause-fault : goal.returns-clause-fault
+returns-clause-fault c = λ names is. (fields_given names c.args.item.now c.number_all_fields.result (c.number_all_fields.ensures names is)).1
+
+pub returns-clause-elision : goal.returns-clause-elision
+returns-clause-elision c = λ names is none.
+    fields_elided names c.args.item.now c.number_all_fields.result none
+    (fields_given names c.args.item.now c.number_all_fields.result (c.number_all_fields.ensures names is)).1

@@ -1,0 +1,26 @@
+use Rattle.std.proofs.Common.{ap, ◌∙◌}
+use Rattle.hir_number.specs.Numbered.{IsNumberedFunction, numbers_of}
+use Rattle.hir_number.specs.Signatures.{function_uses, without_writer}
+use Rattle.hir_number.proofs.WithinLemmas.{if_ok_so, numbers_within}
+use Rattle.hir_number.proofs.AnswerLemmas.{function_given}
+use Rattle.hir_number.proofs.ElisionLemmas.{function_elided}
+use Rattle.hir_number.proofs.signature.number_function.Goals as goal
+
+pub returns-clause-numbered : goal.returns-clause-numbered
+returns-clause-numbered c = λ names is.
+    (function_given names c.args.function.now c.before_writer-params.result.now c.number_signature.result (c.before_writer-params.ensures ∙ ap without_writer c.as_slice.ensures) (c.number_signature.ensures names is)).0
+
+pub returns-clause-fault : goal.returns-clause-fault
+returns-clause-fault c = λ names is.
+    (function_given names c.args.function.now c.before_writer-params.result.now c.number_signature.result (c.before_writer-params.ensures ∙ ap without_writer c.as_slice.ensures) (c.number_signature.ensures names is)).1
+
+pub returns-clause-elision : goal.returns-clause-elision
+returns-clause-elision c = λ names is none.
+    function_elided names c.args.function.now c.number_signature.result none
+    (function_given names c.args.function.now c.before_writer-params.result.now c.number_signature.result (c.before_writer-params.ensures ∙ ap without_writer c.as_slice.ensures) (c.number_signature.ensures names is)).1
+
+pub returns-clause-within : goal.returns-clause-within
+returns-clause-within c = λ names is.
+    if_ok_so (IsNumberedFunction names c.args.function.now) _ c.number_signature.result
+    (λ n has. numbers_within c.args.function.now.lifetimes (function_uses names c.args.function.now) (numbers_of n) n.lifetimes has.numbers has.lifetimes)
+    (returns-clause-numbered c names is)

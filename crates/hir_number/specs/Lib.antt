@@ -1,0 +1,10 @@
+pub mod Breaches
+pub mod Faults
+pub mod Naming
+pub mod Numbered
+pub mod Numbers
+pub mod Occurrences
+pub mod Shapes
+pub mod Signatures
+pub mod Uses
+pub mod inside

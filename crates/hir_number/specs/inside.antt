@@ -1,0 +1,4 @@
+pub mod Threads
+pub mod Parts
+pub mod Runs
+pub mod Scopes
