@@ -1,0 +1,14 @@
+pub mod Asked
+pub mod Breaks
+pub mod Carrying
+pub mod Exactly
+pub mod Faults
+pub mod ItemBreaks
+pub mod Items
+pub mod ParamBreaks
+pub mod Params
+pub mod ReturnBreaks
+pub mod Returns
+pub mod Telling
+pub mod Ways
+pub mod rules

@@ -1,0 +1,3 @@
+pub mod Catalog
+pub mod Shapes
+pub mod Table
