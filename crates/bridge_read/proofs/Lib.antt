@@ -8,7 +8,6 @@ pub mod FormLaws
 pub mod InputLaws
 pub mod LeadLemmas
 pub mod ListLemmas
-pub mod LiveLemmas
 pub mod ModuleLemmas
 pub mod NameLemmas
 pub mod ObjectLaws

@@ -1,41 +1,39 @@
-//! Objects: their members are put into one place for each key of their form, and are then read in the order of the form.
+//! Objects: each member gets the number of its key in the form, and the members are then taken in the order of the form.
 
-ghost use Rattle.std.specs.Prelude.{◌≡◌, ℕ, ◌<◌, [], ◌∷◌, true, false, length, List, Option, Some, Err, IfOk, IfErr, option_map, string_cmp};
+ghost use Rattle.std.specs.Prelude.{◌≡◌, ℕ, ◌<◌, [], ◌∷◌, ◌++◌, false, true, drop, length, List, Some, IfOk, OnOk, option_map, string_cmp};
 ghost use Rattle.std.specs.BTreeMap.{keys};
 ghost use Rattle.std.specs.List.Sorted.{IsStrictlySortedBy};
-ghost use Rattle.std.specs.Vec.Iter.{into_iter_items};
 ghost use Rattle.serde_json.specs.Data.{Data};
 ghost use Rattle.serde_json.specs.View.{view, members_view};
 ghost use Rattle.bridge_read.specs.declared.keys.Key.{Key as Name};
-ghost use Rattle.bridge_read.specs.Form.{live, sole};
+ghost use Rattle.bridge_read.specs.Form.{add_live, live, sole};
 ghost use Rattle.bridge_read.specs.Reading.{flag_of, held_of, list_of, needed_of, not_null, optional_of, under};
 ghost use Rattle.bridge_read.specs.inside.Given.{Gives, GivesBy, held, needed, optional, some_of};
-ghost use Rattle.bridge_read.specs.inside.Left.{IsLeft, Opens, Takes, all_seen, are_apart, empties, put_all, live_in, place_of, put, seen};
+ghost use Rattle.bridge_read.specs.inside.Left.{Finds, IsLeft, Opens, Takes, all_seen, are_apart, found_list, held_at, live_from, number_of, numbered, place_of, seen, slot, without};
 
 use crate::fault::{Fault, ReadFault};
 use crate::keys::Key;
 use crate::objects::{in_member, members};
 use crate::reading::{FromForm, some_list_of};
-use bridge_ast::Items;
+use bridge_ast::{Items, NoMemory};
 use serde_json::{Map, Value};
 use std::alloc::Global;
-use std::vec::IntoIter;
 
 /// A key of an object's form, with what stands under it.
 #[derive(Drop)]
-pub struct Place {
+pub struct Field {
     /// The key.
     pub key: Key,
     /// What stands under it; null stands for nothing.
     pub value: Option<Value>,
 }
 
-impl Place {
+impl Field {
     /// What stands under the key, which is required.
     fn needed<T: FromForm>(self, alloc: Global) -> Result<T, ReadFault>
         ensures { Gives result (needed_of T.form self.key (option_map view self.value)) }
     {
-        let Place { key, value } = self;
+        let Field { key, value } = self;
         match value {
             Some(value) => in_member(alloc, key, T::from_form(alloc, value)),
             None => Err(ReadFault::missing_key(alloc)),
@@ -46,7 +44,7 @@ impl Place {
     fn optional<T: FromForm>(self, alloc: Global) -> Result<Option<T>, ReadFault>
         ensures { Gives result (optional_of T.form self.key (option_map view self.value)) }
     {
-        let Place { key, value } = self;
+        let Field { key, value } = self;
         match value {
             Some(value) => Ok(Some(in_member(alloc, key, T::from_form(alloc, value))?)),
             None => Ok(None),
@@ -57,7 +55,7 @@ impl Place {
     fn held<T: FromForm>(self, alloc: Global, absent: T) -> Result<T, ReadFault>
         ensures { Gives result (held_of absent T.form self.key (option_map view self.value)) }
     {
-        let Place { key, value } = self;
+        let Field { key, value } = self;
         match value {
             Some(value) => in_member(alloc, key, T::from_form(alloc, value)),
             None => Ok(absent),
@@ -65,39 +63,58 @@ impl Place {
     }
 }
 
-/// What is left to read of an object: keys of its form, in order, each with what stands under it.
+/// A member of an object, which isn't null.
 #[derive(Drop)]
-pub struct Fields {
-    /// The places of these keys.
-    pub places: IntoIter<Place>,
+pub struct Member {
+    /// The number of its key among those of the form.
+    pub number: usize,
+    /// Its value, until that is taken.
+    pub value: Option<Value>,
 }
 
-impl Fields {
+/// What is left to read of an object.
+#[derive(Drop)]
+pub struct Fields<'k> {
+    /// The keys of its form, in order.
+    pub keys: &'k [Key],
+    /// How many of them were read.
+    pub read: usize,
+    /// Its members.
+    pub members: Vec<Member>,
+}
+
+impl<'k> Fields<'k> {
     /// All keys of the object that the value is; the fault of a value that is none, or of its first key that is none of these.
+    
     #[tactic(auto, using(crate::proofs::FieldLemmas::refused, crate::proofs::FieldLemmas::no_object))]
-    pub fn of(alloc: Global, value: Value, keys: &[Key]) -> Result<Fields, ReadFault>
+    pub fn of(alloc: Global, value: Value, keys: &'k [Key]) -> Result<Fields<'k>, ReadFault>
         requires { are_apart keys.now ≡ true }
         ensures { Opens result keys.now (view value) }
     {
-        let members = members(alloc, value)?;
-        let places = put_all(alloc, empty(alloc, keys)?, members)?;
+        let members = number_all(alloc, keys, members(alloc, value)?)?;
         Ok(Fields {
-            places: places.into_iter(),
+            keys,
+            read: 0,
+            members,
         })
     }
 
     /// The next key, with what stands under it.
-    #[tactic(auto, unfolding(crate::specs::inside::Left::IsLeft))]
-    pub fn next(&mut self) -> Place
+    pub fn next(&mut self) -> Field
         ensures { (key : Name) (keys : List Name) (d : Data) → IsLeft self.old (key ∷ keys) d
             → (seen result ≡ (key, under key d)) × IsLeft self.new keys d }
     {
-        match self.places.next() {
-            Some(place) => place,
-            None => Place {
-                key: Key::Root,
-                value: None,
-            },
+        let number = self.read;
+        if number < self.keys.len() {
+            self.read = number + 1;
+            return Field {
+                key: self.keys[number],
+                value: take(&mut self.members, number),
+            };
+        }
+        Field {
+            key: Key::Root,
+            value: None,
         }
     }
 
@@ -138,7 +155,7 @@ impl Fields {
         ensures { (key : Name) (keys : List Name) (d : Data) → IsLeft self.old (key ∷ keys) d
             → Takes result (needed (some_of (list_of T.form)) key d) self.new keys d }
     {
-        let Place { key, value } = self.next();
+        let Field { key, value } = self.next();
         match value {
             Some(value) => in_member(alloc, key, some_list_of(alloc, value)),
             None => Err(ReadFault::missing_key(alloc)),
@@ -154,27 +171,47 @@ impl Fields {
     }
 
     /// The one key under which something stands, with what stands there; the wrong form where there are none or more.
-    #[tactic(auto, using(crate::proofs::LiveLemmas::live_places), unfolding(crate::specs::inside::Left::IsLeft))]
+    #[tactic(auto, using(crate::proofs::FieldLemmas::live_left), unfolding(crate::specs::inside::Left::IsLeft))]
     pub fn sole(self, alloc: Global) -> Result<(Key, Value), ReadFault>
-        ensures { (keys : List Name) (d : Data) → IsLeft self keys d
+        ensures { (keys : List Name) (d : Data) → IsLeft self.entry keys d
             → GivesBy (λ one. (one.0, view one.1)) result (sole (live keys d)) }
     {
-        sole_place(alloc, self.places)
+        sole_from(alloc, self.keys, self.read, self.members)
     }
 }
 
-/// The key of the one place in which something stands, with what stands there.
-fn sole_place(alloc: Global, places: IntoIter<Place>) -> Result<(Key, Value), ReadFault>
+/// What was found under earlier keys and under this one; the wrong form where both have something.
+fn found_with(
+    alloc: Global,
+    found: Option<(Key, Value)>,
+    key: Key,
+    value: Option<Value>,
+) -> Result<Option<(Key, Value)>, ReadFault>
+    ensures { Finds result (found_list found ++ add_live key (option_map view value) []) }
+{
+    match (found, value) {
+        (found, None) => Ok(found),
+        (None, Some(value)) => Ok(Some((key, value))),
+        (Some(_), Some(_)) => Err(ReadFault::wrong_form(alloc)),
+    }
+}
+
+/// The one key from that number on under which something stands, with what stands there.
+fn sole_from(
+    alloc: Global,
+    form: &[Key],
+    read: usize,
+    mut members: Vec<Member>,
+) -> Result<(Key, Value), ReadFault>
     ensures { GivesBy (λ one. (one.0, view one.1)) result
-        (sole (live_in (all_seen (into_iter_items places)))) }
+        (sole (live_from read (drop read form.now) (all_seen members.items))) }
 {
     let mut found = None;
-    for Place { key, value } in places {
-        if let Some(value) = value {
-            if found.is_some() {
-                return Err(ReadFault::wrong_form(alloc));
-            }
-            found = Some((key, value));
+    for number in read..form.len() {
+        let value = take(&mut members, number);
+        match found_with(alloc, found, form[number], value) {
+            Ok(more) => found = more,
+            Err(fault) => return Err(fault),
         }
     }
     match found {
@@ -183,65 +220,84 @@ fn sole_place(alloc: Global, places: IntoIter<Place>) -> Result<(Key, Value), Re
     }
 }
 
-/// A place for each key, with nothing in it.
-fn empty(alloc: Global, keys: &[Key]) -> Result<Vec<Place>, ReadFault>
-    ensures ok { IfOk result (λ places. all_seen places.items ≡ empties keys.now) }
-    ensures err { IfErr result (λ fault. fault ≡ ReadFault.NoMemory) }
+/// The place of the first member whose key has that number.
+fn place_of(members: &[Member], number: usize) -> Option<usize>
+    ensures { result ≡ place_of number (all_seen members.now) }
 {
-    let mut places = Vec::with_capacity(alloc, keys.len())?;
-    for key in keys {
-        places.push(Place {
-            key: *key,
-            value: None,
-        })?;
+    for (place, member) in members.iter().enumerate() {
+        if member.number == number {
+            return Some(place);
+        }
     }
-    Ok(places)
+    None
 }
 
-/// The value, unless it is null.
-fn not_null(value: Value) -> Option<Value>
-    ensures { option_map view result ≡ not_null (view value) }
+/// Takes what the member of that place holds.
+fn take_at(members: &mut [Member], place: usize) -> Option<Value>
+    requires { place < length members.old }
+    ensures taken { (number : ℕ) → place_of number (all_seen members.old) ≡ Some place
+        → option_map view result ≡ held_at number (all_seen members.old) }
+    ensures left { (number : ℕ) → place_of number (all_seen members.old) ≡ Some place
+        → all_seen members.new ≡ without number (all_seen members.old) }
 {
-    if value.is_null() { None } else { Some(value) }
+    members[place].value.take()
 }
 
-/// The number of the first place with that name.
-fn place_of(places: &[Place], name: &str) -> Option<usize>
-    ensures { result ≡ place_of name.now (all_seen places.now) }
+/// Takes what stands under the key of that number.
+#[tactic(auto, using(crate::proofs::FieldLemmas::place_within, crate::proofs::FieldLemmas::none_held, crate::proofs::FieldLemmas::none_taken))]
+fn take(members: &mut Vec<Member>, number: usize) -> Option<Value>
+    ensures taken { option_map view result ≡ held_at number (all_seen members.old.items) }
+    ensures left { all_seen members.new.items ≡ without number (all_seen members.old.items) }
 {
-    for (number, place) in places.iter().enumerate() {
-        if place.key.text() == name {
+    match place_of(members.as_slice(), number) {
+        Some(place) => take_at(members.as_mut_slice(), place),
+        None => None,
+    }
+}
+
+/// The number of the key of that name.
+fn number_of(keys: &[Key], name: &str) -> Option<usize>
+    ensures { result ≡ number_of keys.now name.now }
+{
+    for (number, key) in keys.iter().enumerate() {
+        if key.text() == name {
             return Some(number);
         }
     }
     None
 }
 
-/// Puts a member into the place of that number, which is the first with its name.
-fn put(places: &mut [Place], number: usize, value: Value)
-    requires { number < length places.old }
-    ensures { (name : List ℕ) → place_of name (all_seen places.old) ≡ Some number
-        → all_seen places.new ≡ put name (not_null (view value)) (all_seen places.old) }
+/// Adds the member under the key of that number; null is none.
+fn add(members: &mut Vec<Member>, number: usize, value: Value) -> Result<(), NoMemory>
+    ensures { OnOk result (all_seen members.new.items
+        ≡ all_seen members.old.items ++ slot number (not_null (view value))) }
 {
-    places[number].value = not_null(value);
+    if value.is_null() {
+        return Ok(());
+    }
+    members.push(Member {
+        number,
+        value: Some(value),
+    })?;
+    Ok(())
 }
 
-/// The members in their places; the fault of the first that has none.
-#[tactic(auto, using(crate::proofs::FieldLemmas::place_within))]
-fn put_all(
+/// The members by the numbers of their keys; the fault of the first whose key is none of these.
+fn number_all(
     alloc: Global,
-    mut places: Vec<Place>,
+    form: &[Key],
     members: Map<String, Value>,
-) -> Result<Vec<Place>, ReadFault>
-    ensures put { GivesBy (λ found. all_seen found.items) result
-        (put_all (all_seen places.items) (members_view members.entries)) }
+) -> Result<Vec<Member>, ReadFault>
+    ensures numbered { GivesBy (λ found. all_seen found.items) result
+        (numbered form.now [] (members_view members.entries)) }
     ensures ordered { IsStrictlySortedBy string_cmp (keys members) }
 {
+    let mut found = Vec::with_capacity(alloc, members.len())?;
     for (name, value) in members {
-        match place_of(places.as_slice(), name.as_str()) {
-            Some(number) => put(places.as_mut_slice(), number, value),
+        match number_of(form, name.as_str()) {
+            Some(number) => add(&mut found, number, value)?,
             None => return Err(ReadFault::Bad(Fault::unknown_key(alloc, name.as_str())?)),
         }
     }
-    Ok(places)
+    Ok(found)
 }

@@ -12,7 +12,7 @@ ghost use Rattle.bridge_read.specs.inside.Names.{NamesModule};
 
 use crate::attrs::no_attrs;
 use crate::fault::ReadFault;
-use crate::fields::{Fields, Place};
+use crate::fields::{Field, Fields};
 use crate::keys::Key;
 use crate::objects::{in_entry, in_member};
 use crate::reading::{FromForm, entries};
@@ -211,7 +211,7 @@ fn nested_modules(
     ensures { (key : Name) (keys : List Name) (d : Data) → IsLeft left.old (key ∷ keys) d
         → Gives result (held [] (nested_in levels path.now).read key d) }
 {
-    let Place { key, value } = left.next();
+    let Field { key, value } = left.next();
     match value {
         Some(value) => {
             let modules = inner_modules(alloc, room, value, path, levels);

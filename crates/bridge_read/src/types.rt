@@ -11,7 +11,7 @@ ghost use Rattle.bridge_read.specs.inside.Left.{IsLeft, Takes};
 ghost use Rattle.bridge_read.specs.forms.Types.{borrow_of, spelling, type_called, type_word, type_keys, type_under, type_within, written_primitive, writer_called, reference_type, result_type, custom_slice, callback, str_slice, str_list, primitive_slice, written_borrow};
 
 use crate::fault::{Fault, InputKind, ReadFault};
-use crate::fields::{Fields, Place};
+use crate::fields::{Field, Fields};
 use crate::keys::Key;
 use crate::lifetimes::mutability;
 use crate::objects::{in_entry, in_member};
@@ -175,7 +175,7 @@ fn needed_type(
     ensures { (key : Name) (keys : List Name) (d : Data) → IsLeft left.old (key ∷ keys) d
         → Takes result (needed (type_within levels).read key d) left.new keys d }
 {
-    let Place { key, value } = left.next();
+    let Field { key, value } = left.next();
     match value {
         Some(value) => in_member(alloc, key, boxed(alloc, value, levels)),
         None => Err(ReadFault::missing_key(alloc)),
@@ -253,7 +253,7 @@ fn types_under(
     ensures { (key : Name) (keys : List Name) (d : Data) → IsLeft left.old (key ∷ keys) d
         → Takes result (held [] (list_of (type_within levels).read) key d) left.new keys d }
 {
-    let Place { key, value } = left.next();
+    let Field { key, value } = left.next();
     match value {
         Some(value) => in_member(alloc, key, type_list(alloc, value, levels)),
         None => Ok(Items::new(alloc)),
@@ -270,7 +270,7 @@ fn type_or_unit(
     ensures { (key : Name) (keys : List Name) (d : Data) → IsLeft left.old (key ∷ keys) d
         → Takes result (held TypeName.Unit (type_within levels).read key d) left.new keys d }
 {
-    let Place { key, value } = left.next();
+    let Field { key, value } = left.next();
     match value {
         Some(value) => in_member(alloc, key, boxed(alloc, value, levels)),
         None => Ok(Boxed::new(alloc, TypeName::Unit)?),

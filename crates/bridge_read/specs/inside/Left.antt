@@ -1,39 +1,67 @@
--- What is left to read of an object whose members were put into one place for each key of its form.
-use Rattle.std.specs.Prelude.{◌≡◌, ℕ, suc, List, [], ◌∷◌, map, Bool, true, ◌&&◌, not, Option, Some, None, option_map, Result, Ok, Err, if◌then◌else◌}
+-- What is left to read of an object whose members have the numbers of their keys in its form.
+use Rattle.std.specs.Prelude.{◌≡◌, ℕ, suc, List, [], ◌∷◌, ◌++◌, map, drop, nat_eq, Bool, true, ◌&&◌, not, Option, Some, None, option_map, Result, Ok, Err, if◌then◌else◌}
 use Rattle.std.specs.Str.{bytes_eq}
-use Rattle.std.specs.Vec.Iter.{into_iter_items}
 use Rattle.serde_json.specs.Data.{Data, Members, no_members, member}
 use Rattle.serde_json.specs.View.{view}
+use Rattle.serde_json.specs.declared.value.Value.{Value}
 use Rattle.bridge_read.specs.declared.fault.Fault.{Fault}
 use Rattle.bridge_read.specs.declared.fault.InputKind.TheVariants as kind
 use Rattle.bridge_read.specs.declared.fault.ReadFault.{ReadFault}
+use Rattle.bridge_read.specs.declared.fault.ReadFault.TheVariants.{Bad, NoMemory}
+use Rattle.bridge_read.specs.declared.fields.Field.{Field}
 use Rattle.bridge_read.specs.declared.fields.Fields.{Fields}
-use Rattle.bridge_read.specs.declared.fields.Place.{Place}
+use Rattle.bridge_read.specs.declared.fields.Member.{Member}
 use Rattle.bridge_read.specs.declared.keys.Key.{Key}
 use Rattle.bridge_read.specs.declared.pointer.Step.TheVariants as step
-use Rattle.bridge_read.specs.Form.{add_live}
+use Rattle.bridge_read.specs.Form.{add_live, sole}
 use Rattle.bridge_read.specs.Keys.{key_text}
 use Rattle.bridge_read.specs.Reading.{here, within, is_one_of, not_null, under, only}
 use Rattle.bridge_read.specs.inside.Given.{Stops}
 
--- keys, each with what stands under it
+-- numbers of keys, each with what stands under the key
 abbrev pub Slots : Type 0
-Slots = List (Key × Option Data)
+Slots = List (ℕ × Option Data)
 
-abbrev pub seen : Place → Key × Option Data
-seen place = (place.key, option_map view place.value)
+abbrev pub seen : Field → Key × Option Data
+seen field = (field.key, option_map view field.value)
 
-abbrev pub all_seen : List Place → Slots
-all_seen places = map seen places
+abbrev pub all_seen : List Member → Slots
+all_seen members = map (λ m. (m.number, option_map view m.value)) members
 
 -- no two of the keys have one text
 unfoldable pub are_apart : List Key → Bool
 are_apart [] = true
 are_apart (k ∷ ks) = not (is_one_of ks (key_text k)) && are_apart ks
 
--- these keys are left, each with what stands under it in the object
+-- what the first member of that number holds
+abbrev pub held_at : ℕ → Slots → Option Data
+held_at n [] = None
+held_at n (s ∷ slots) = if nat_eq s.0 n then s.1 else held_at n slots
+
+-- what these keys hold, which are numbered from here on
+abbrev pub held_from : ℕ → List Key → Slots → List (Option Data)
+held_from n [] slots = []
+held_from n (k ∷ keys) slots = held_at n slots ∷ held_from (suc n) keys slots
+
+-- those of the keys under which something stands
+abbrev pub live_from : ℕ → List Key → Slots → List (Key × Data)
+live_from n [] slots = []
+live_from n (k ∷ keys) slots = add_live k (held_at n slots) (live_from (suc n) keys slots)
+
+-- what was found so far
+abbrev pub found_list : Option (Key × Value) → List (Key × Data)
+found_list None = []
+found_list (Some one) = (one.0, view one.1) ∷ []
+
+-- what was found is all of these; it is refused where these are more than one may be
+abbrev pub Finds : Result (Option (Key × Value)) ReadFault → List (Key × Data) → Type 0
+Finds (Ok found) ones = found_list found ≡ ones
+Finds (Err fault) ones = (rest : List (Key × Data)) → Stops fault (sole (ones ++ rest))
+
+-- these keys are left, and what stands under each in the object
 unfoldable pub IsLeft : Fields → List Key → Data → Type 0
-IsLeft fields keys d = all_seen (into_iter_items fields.places) ≡ map (λ k. (k, under k d)) keys
+IsLeft fields keys d = (drop fields.read fields.keys.now ≡ keys)
+    × (held_from fields.read keys (all_seen fields.members.items) ≡ map (λ k. under k d) keys)
 
 -- an object that has no other keys is open, and all of these are left; another value is refused
 abbrev pub Opens : Result Fields ReadFault → List Key → Data → Type 0
@@ -45,32 +73,33 @@ abbrev pub Takes : {A : Type 0} → Result A ReadFault → Result A Fault → Fi
 Takes (Ok x) read left keys d = (read ≡ Ok x) × IsLeft left keys d
 Takes (Err fault) read left keys d = Stops fault read
 
--- ---- members put into their places
+-- ---- members by the numbers of their keys
 
--- the number of the first place with that name
-abbrev pub place_of : List ℕ → Slots → Option ℕ
-place_of text [] = None
-place_of text (s ∷ slots) = if bytes_eq (key_text s.0) text then Some 0 else option_map (λ n. suc n) (place_of text slots)
+-- the place of the first member of that number
+abbrev pub place_of : ℕ → Slots → Option ℕ
+place_of n [] = None
+place_of n (s ∷ slots) = if nat_eq s.0 n then Some 0 else option_map (λ place. suc place) (place_of n slots)
 
--- the first place with that name holds this
-abbrev pub put : List ℕ → Option Data → Slots → Slots
-put text x [] = []
-put text x (s ∷ slots) = if bytes_eq (key_text s.0) text then (s.0, x) ∷ slots else s ∷ put text x slots
+-- the first member of that number is taken
+abbrev pub without : ℕ → Slots → Slots
+without n [] = []
+without n (s ∷ slots) = if nat_eq s.0 n then (s.0, None) ∷ slots else s ∷ without n slots
 
-abbrev pub or_unknown : Option ℕ → List ℕ → Result Slots Fault → Result Slots Fault
-or_unknown (Some n) text others = others
-or_unknown None text others = Err (within (step.Member text) (here kind.UnknownKey))
+-- the number of the first key with that text
+abbrev pub number_of : List Key → List ℕ → Option ℕ
+number_of [] text = None
+number_of (k ∷ keys) text = if bytes_eq (key_text k) text then Some 0 else option_map (λ n. suc n) (number_of keys text)
 
--- the members put one after the other, up to the first that has no place
-abbrev pub put_all : Slots → Members → Result Slots Fault
-put_all slots no_members = Ok slots
-put_all slots (member text d ms) = or_unknown (place_of text slots) text (put_all (put text (not_null d) slots) ms)
+-- a member that isn't null
+abbrev pub slot : ℕ → Option Data → Slots
+slot n None = []
+slot n (Some d) = (n, Some d) ∷ []
 
--- nothing in any place
-abbrev pub empties : List Key → Slots
-empties keys = map (λ k. (k, None)) keys
+abbrev pub or_unknown : Option ℕ → List ℕ → (ℕ → Result Slots Fault) → Result Slots Fault
+or_unknown (Some n) text next = next n
+or_unknown None text next = Err (within (step.Member text) (here kind.UnknownKey))
 
--- those of the places in which something stands
-abbrev pub live_in : Slots → List (Key × Data)
-live_in [] = []
-live_in (s ∷ slots) = add_live s.0 s.1 (live_in slots)
+-- the members after these, up to the first whose key is none of the form
+abbrev pub numbered : List Key → Slots → Members → Result Slots Fault
+numbered keys slots no_members = Ok slots
+numbered keys slots (member text d ms) = or_unknown (number_of keys text) text (λ n. numbered keys (slots ++ slot n (not_null d)) ms)
