@@ -1,7 +1,8 @@
 #!/bin/sh
-# Times the reading of an input beside the reading of the same bytes as a JSON value: of 0.5, 5 and 40 MB, in milliseconds, the
-# best of seven each, in one process. The program is made in a temporary folder, beside a copy of the crates, which are proved
-# there first, and is deleted with it.
+# Times the reading of an input beside the reading of the same bytes as a JSON value: of 0.5, 5 and 40 MB, in milliseconds, first
+# in a process that does nothing else (as the program does, with the memory that it takes at the peak), the least of five processes;
+# then over and over in one process, the least of seven times. The program is made in a temporary folder, beside a copy of the
+# crates, which are proved there first, and is deleted with it.
 #
 #   bench/reading.sh            makes the program, and times it
 #   bench/reading.sh PROGRAM    times a program that was made before
@@ -64,27 +65,43 @@ build() {
 use bridge_outside::{StdSource, read_all};
 use bridge_read::read_input;
 use serde_json::Value;
+use std::env;
 use std::io::Error;
 use std::process::ExitCode;
 use std::time::Instant;
 
-/// The nanoseconds that the reading of the value takes, and those of the whole input; none of what isn't read.
-fn times(rt: &HostRuntime, bytes: &[u8]) -> Result<(u128, u128), Error> {
-    let alloc = rt.alloc();
+/// The nanoseconds that the reading of the value takes; none of what isn't read.
+fn value_time(rt: &HostRuntime, bytes: &[u8]) -> Result<u128, Error> {
     let begin = Instant::now(rt)?;
-    let value = Value::from_slice(alloc, bytes);
-    let is_value = value.is_ok();
+    let value = Value::from_slice(rt.alloc(), bytes);
+    let is_read = value.is_ok();
     drop(value);
-    let value_time = begin.elapsed(rt)?.as_nanos();
+    let time = begin.elapsed(rt)?.as_nanos();
+    if is_read { Ok(time) } else { Ok(0) }
+}
+
+/// The nanoseconds that the reading of the whole input takes; none of what isn't read.
+fn input_time(rt: &HostRuntime, bytes: &[u8]) -> Result<u128, Error> {
     let begin = Instant::now(rt)?;
-    let input = read_input(alloc, bytes);
-    let is_input = input.is_ok();
+    let input = read_input(rt.alloc(), bytes);
+    let is_read = input.is_ok();
     drop(input);
-    let input_time = begin.elapsed(rt)?.as_nanos();
-    if is_value && is_input {
-        Ok((value_time, input_time))
-    } else {
-        Ok((0, 0))
+    let time = begin.elapsed(rt)?.as_nanos();
+    if is_read { Ok(time) } else { Ok(0) }
+}
+
+/// What the first word asks for: `value` or `input` once, or both over and over.
+fn run(rt: &HostRuntime, bytes: &[u8]) -> Result<(), Error> {
+    let word = env::args(rt)?.skip(1).next();
+    match word.as_ref().map(|word| word.as_str()) {
+        Some("value") => println!(rt; "{}", value_time(rt, bytes)?),
+        Some(_) => println!(rt; "{}", input_time(rt, bytes)?),
+        None => {
+            for _ in 0..7 {
+                println!(rt; "{} {}", value_time(rt, bytes)?, input_time(rt, bytes)?)?;
+            }
+            Ok(())
+        }
     }
 }
 
@@ -93,13 +110,10 @@ fn main(rt: HostRuntime) -> ExitCode {
     let Ok(bytes) = read_all(rt.alloc(), &mut source) else {
         return ExitCode::from(1);
     };
-    for _ in 0..7 {
-        let Ok((value, input)) = times(&rt, &bytes) else {
-            return ExitCode::from(1);
-        };
-        let _ = println!(rt; "{value} {input}");
+    match run(&rt, &bytes) {
+        Ok(()) => ExitCode::from(0),
+        Err(_) => ExitCode::from(1),
     }
-    ExitCode::from(0)
 }
 PROGRAM
     input 1000 | rt run >/dev/null
@@ -107,7 +121,24 @@ PROGRAM
 }
 
 if [ $# -ge 1 ]; then program=$1; else build; fi
-printf '%8s %12s %12s %8s\n' MB value input ratio
+
+# The least time of five processes that read the value, or the whole input, in nanoseconds.
+least() {
+    for _ in 1 2 3 4 5; do "$program" "$1" <"$folder/input"; done | sort -n | head -n 1
+}
+
+# The most memory that such a process takes, in KB, where GNU time is there.
+peak() {
+    if [ -x /usr/bin/time ]; then /usr/bin/time -f %M "$program" "$1" <"$folder/input" 2>&1 >/dev/null; else echo 0; fi
+}
+
+printf '%8s %12s %12s %8s %12s %12s\n' MB value input ratio 'value, MB' 'input, MB'
+for size in 0.5 5 40; do
+    input "$(awk -v mb="$size" 'BEGIN { printf "%d", mb * 1000000 }')" >"$folder/input"
+    echo "$(least value) $(least input) $(peak value) $(peak input)" | awk -v mb="$size" '
+        { printf "%8s %12.1f %12.1f %8.2f %12.0f %12.0f\n", mb, $1 / 1e6, $2 / 1e6, $2 / $1, $3 / 1e3, $4 / 1e3 }'
+done
+printf '\nover and over in one process\n'
 for size in 0.5 5 40; do
     input "$(awk -v mb="$size" 'BEGIN { printf "%d", mb * 1000000 }')" >"$folder/input"
     "$program" <"$folder/input" | awk -v mb="$size" '
