@@ -1,0 +1,35 @@
+//! What each position has.
+
+use crate::tests::{callback, trait_path};
+use hir_ids::{InputOrOutput, TraitId};
+use hir_types::{
+    CallbackReturn, Everywhere, InputOnly, OutputOnly, PositionTypes, TraitIdGetter, TyPosition,
+};
+use std::alloc::Global;
+
+/// Whether the position takes a callback, whether it takes a path to a trait, and its status.
+fn takes<P: PositionTypes>(alloc: Global) -> (bool, bool, InputOrOutput) {
+    let takes_callbacks = P::build_callback(callback(alloc)).is_some();
+    let takes_traits = P::build_trait_path(trait_path(alloc)).is_some();
+    (takes_callbacks, takes_traits, P::IN_OUT_STATUS)
+}
+
+#[test]
+fn callbacks_and_traits_come_in(rt: HostRuntime) {
+    let alloc = rt.alloc();
+    let everywhere = takes::<Everywhere>(alloc);
+    assert_eq!(rt; everywhere, (false, false, InputOrOutput::InputOutput));
+    let outputs = takes::<OutputOnly>(alloc);
+    assert_eq!(rt; outputs, (false, false, InputOrOutput::Output));
+    let inputs = takes::<InputOnly>(alloc);
+    assert_eq!(rt; inputs, (true, true, InputOrOutput::Input));
+    let returns = takes::<CallbackReturn>(alloc);
+    assert_eq!(rt; returns, (false, true, InputOrOutput::Input));
+}
+
+#[test]
+fn a_trait_is_built_as_it_was(rt: HostRuntime) {
+    let built = CallbackReturn::build_trait_path(trait_path(rt.alloc()));
+    let id = built.as_ref().map(|path| path.id());
+    assert_eq!(rt; id, Some(TraitId::new(5)));
+}

@@ -1,0 +1,82 @@
+//! What is asked of returns.
+
+use crate::tests::{opaque, shared};
+use hir_ids::{MaybeOwn, PrimitiveType};
+use hir_types::{HirType, OutType, OutputOnly, ReturnType, SuccessType, WriteType};
+use std::alloc::Global;
+use std::process::Abort;
+use std::test::Fail;
+
+/// The types and returns of methods.
+type Success = SuccessType<OutputOnly>;
+
+type Returned = ReturnType<OutputOnly>;
+
+/// What the table says of one success.
+#[derive(Drop)]
+struct Row {
+    writes: bool,
+    writes_16: bool,
+    primitive: Option<PrimitiveType>,
+    unit: bool,
+}
+
+/// Compares what is asked of the success with the row.
+fn compare(rt: &impl Abort, success: &Success, row: &Row) {
+    assert_eq!(rt; success.is_write(), row.writes);
+    assert_eq!(rt; success.is_write_16(), row.writes_16);
+    assert_eq!(rt; success.write_primitive(), row.primitive);
+    assert_eq!(rt; success.is_unit(), row.unit);
+    assert_eq!(rt; success.as_type().is_some(), !row.writes && !row.unit);
+}
+
+/// How many types the return has.
+fn types_in(returned: &Returned) -> usize {
+    let mut count = 0usize;
+    returned.with_contained_types(|_ty| count = count.saturating_add(1));
+    count
+}
+
+/// Compares the lifetimes that the return names with these numbers.
+fn names(
+    rt: &impl Abort,
+    alloc: Global,
+    returned: &Returned,
+    numbers: &[usize],
+) -> Result<(), Fail> {
+    let mut rest = numbers;
+    for lifetime in &returned.used_method_lifetimes(alloc)? {
+        let Some((first, others)) = rest.split_first() else {
+            return Err(Fail::from("too many lifetimes"));
+        };
+        assert_eq!(rt; lifetime.index(), *first);
+        rest = others;
+    }
+    assert_eq!(rt; rest.len(), 0);
+    Ok(())
+}
+
+/// `Box<Page<'4, 'static>>` behind the given owner.
+fn page(alloc: Global, owner: MaybeOwn) -> Result<OutType, Fail> {
+    Ok(HirType::Opaque(opaque(alloc, &[Some(4), None], true, owner)?))
+}
+
+#[test]
+fn a_writer_is_no_value(rt: HostRuntime) {
+    let row = Row {
+        writes: true,
+        writes_16: true,
+        primitive: None,
+        unit: false,
+    };
+    compare(&rt, &SuccessType::Write(WriteType::Str16), &row);
+}
+
+#[test]
+fn a_return_names_its_lifetimes_in_order(rt: HostRuntime) -> Result<(), Fail> {
+    let alloc = rt.alloc();
+    let page = page(alloc, MaybeOwn::Borrow(shared(1)))?;
+    let returned = ReturnType::Nullable(SuccessType::OutType(page));
+    assert_eq!(rt; types_in(&returned), 1);
+    names(&rt, alloc, &returned, &[1, 4])
+}
