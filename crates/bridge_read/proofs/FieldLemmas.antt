@@ -294,10 +294,10 @@ knows : (keys : List Key) (text : List ℕ) → is_some (number_of keys text) �
 knows [] text = refl
 knows (k ∷ keys) text = knows_at (bytes_eq (key_text k) text) (number_of keys text) (is_one_of keys text) (knows keys text)
   where
-  knows_at : (b : Bool) (others : Option ℕ) (one : Bool) → is_some others ≡ one → is_some (if b then Some 0 else option_map (λ n. suc n) others) ≡ b || one
-  knows_at true others one e = refl
-  knows_at false None one e = e
-  knows_at false (Some n) one e = e
+    knows_at : (b : Bool) (others : Option ℕ) (one : Bool) → is_some others ≡ one → is_some (if b then Some 0 else option_map (λ n. suc n) others) ≡ b || one
+    knows_at true others one e = refl
+    knows_at false None one e = e
+    knows_at false (Some n) one e = e
 
 known_case : (f : ℕ → Slots → Slots) (o : Option ℕ) (one : Bool) (text : List ℕ) (rest : Result Slots Fault) (others : Result (Unit {0}) Fault) → is_some o ≡ one
     → unit_of rest ≡ others → unit_of (after_it f o text rest) ≡ unless_known one text others

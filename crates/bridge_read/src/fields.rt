@@ -85,7 +85,6 @@ pub struct Fields<'k> {
 
 impl<'k> Fields<'k> {
     /// All keys of the object that the value is; the fault of a value that is none, or of its first key that is none of these.
-    
     #[tactic(auto, using(crate::proofs::FieldLemmas::refused, crate::proofs::FieldLemmas::no_object))]
     pub fn of(alloc: Global, value: Value, keys: &'k [Key]) -> Result<Fields<'k>, ReadFault>
         requires { are_apart keys.now ≡ true }

@@ -16,7 +16,7 @@ pub added_more : (held : Held) (first second : List LoweringError) → added (ad
 added_more held first second =
     held_alike (added held (first ++ second)) (added (added held first) second)
     (append_assoc held.reports (map (told_at held.place) first) (map (told_at held.place) second)
-     ∙ ap (λ l. held.reports ++ l) (sym (map-append (told_at held.place) first second)))
+    ∙ ap (λ l. held.reports ++ l) (sym (map-append (told_at held.place) first second)))
     refl
 
 -- one step more of a loop
