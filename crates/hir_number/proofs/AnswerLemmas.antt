@@ -1,5 +1,5 @@
 -- What a signature is answered, told of its uses.
-use Rattle.std.proofs.Common.{◌≡◌, ℕ, List, [], ◌∷◌, ◌++◌, length, map, true, false, Bool, Option, Some, None, Ok, Err, Result, refl, sym, ap, subst, ◌∙◌, ◌⊎◌, inl, inr}
+use Rattle.std.proofs.Common.{◌≡◌, List, ◌++◌, length, map, true, false, Bool, Option, None, Ok, Err, Result, refl, sym, ap, subst, ◌∙◌, inl, inr}
 use Rattle.std.proofs.lemmas.Bool.{lt-ltb, ltb-true}
 use Rattle.hir_life.specs.Declarations.{HasIdents}
 use Rattle.std.specs.Prelude.{IsErrOf, ◌<◌, ⊤, IfOk, IfErr, nat_lt, if◌then◌else◌}
@@ -16,7 +16,7 @@ use Rattle.hir_elide.specs.declared.fault.ElideFault.TheVariants as elide
 use Rattle.hir_elide.specs.Numbering.{most}
 use Rattle.hir_elide.specs.Occurrences.{Signature}
 use Rattle.hir_elide.specs.Phases.{Defining, Returning}
-use Rattle.hir_elide.specs.Signature.{IsOfNames, begun, environment_of}
+use Rattle.hir_elide.specs.Signature.{IsOfNames, begun}
 use Rattle.hir_number.specs.declared.fault.NumberFault.{NumberFault}
 use Rattle.hir_number.specs.declared.fault.NumberFault.TheVariants as fault
 use Rattle.hir_number.specs.declared.numbered.NumberedType.{NumberedType}
@@ -36,9 +36,8 @@ use Rattle.hir_number.specs.inside.Runs.{fields_run, signature_run, trait_method
 use Rattle.hir_number.specs.inside.Threads.{RunTells, Meets, Run, given, standing, with_next}
 use Rattle.hir_number.proofs.FaultLemmas.{FineBy, IsLowered, answers_lowered}
 use Rattle.hir_number.proofs.FlatLemmas.{flat_all, placed_run}
-use Rattle.hir_number.proofs.ShapeLemmas.{Bears}
 use Rattle.hir_number.proofs.SignatureLemmas.{EndIs, IsShaped, IsTraitShaped, end_bears, end_of, fields_bear, flat_fields, flat_placed, flat_signature, flat_trait_method, signature_end, trait_method_end}
-use Rattle.hir_number.proofs.UsesLemmas.{FlatBy, uses_run}
+use Rattle.hir_number.proofs.UsesLemmas.{FlatBy}
 
 -- what comes of a run and what its uses are answered
 abbrev Agrees : {A : Type 0} → (A → NumberLists) → Signature → Result NumberLists NumberFault → Result (A × Signature) NumberFault → Type 0

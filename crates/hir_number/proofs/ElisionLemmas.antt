@@ -1,6 +1,6 @@
 -- Where nothing is wrong with the paths and lifetimes of a signature by themselves, what it is refused for is elision.
-use Rattle.std.proofs.Common.{◌≡◌, ℕ, List, [], ◌∷◌, ◌++◌, length, map, true, false, Bool, Option, Some, None, Ok, Err, Result, refl, sym, ap, subst, ◌∙◌}
-use Rattle.std.specs.Prelude.{nat_lt, if◌then◌else◌, is_some, ⊤, IfErr}
+use Rattle.std.proofs.Common.{◌≡◌, ℕ, List, [], ◌∷◌, ◌++◌, length, true, false, Bool, Option, Some, None, Ok, Err, Result, refl, subst}
+use Rattle.std.specs.Prelude.{nat_lt, if◌then◌else◌, is_some, IfErr}
 use Rattle.std.specs.List.{flat_map}
 use Rattle.bridge_decl.specs.declared.functions.Function.{Function}
 use Rattle.bridge_decl.specs.declared.lifetimes.Lifetime.{Lifetime}
@@ -21,7 +21,7 @@ use Rattle.hir_number.specs.declared.fault.NumberFault.{NumberFault}
 use Rattle.hir_number.specs.declared.fault.NumberFault.TheVariants as fault
 use Rattle.hir_number.specs.Breaches.{Anything, At, Broken, Demand, Equal, LifetimeArity, LifetimeUnknown, Nothing, arity_breaches, breaches_of, field_breaches, function_breaches, method_breaches, self_breaches, trait_method_breaches, unknown, use_breaches, uses_of}
 use Rattle.hir_number.specs.Faults.{IsOfElision, FaultTold}
-use Rattle.hir_number.specs.Naming.{Definition, Naming}
+use Rattle.hir_number.specs.Naming.{Naming}
 use Rattle.hir_number.specs.Numbers.{all_answers, answers, signature_numbers}
 use Rattle.hir_number.specs.Signatures.{Placed, field_uses, function_uses, method_uses, output_uses, param_uses, placed, trait_borrow, trait_method_uses, trait_receiver_uses}
 use Rattle.hir_number.specs.Uses.{Use, One, Path, borrow_uses, type_use}

@@ -1,16 +1,15 @@
 -- The faults that the uses of a signature can have.
-use Rattle.std.proofs.Common.{◌≡◌, ℕ, zero, suc, ◌-◌, List, [], ◌∷◌, ◌++◌, length, map, true, false, Bool, Option, Some, None, Ok, Err, Result, refl, sym, ap, subst, ◌∙◌}
+use Rattle.std.proofs.Common.{◌≡◌, ℕ, zero, suc, ◌-◌, List, [], ◌∷◌, ◌++◌, length, map, true, false, Bool, Option, Some, None, Ok, Err, Result, refl}
 use Rattle.std.specs.Prelude.{nat_lt, if◌then◌else◌, ⊤, replicate}
 use Rattle.bridge_decl.specs.declared.lifetimes.Lifetime.{Lifetime}
 use Rattle.bridge_decl.specs.declared.lifetimes.Lifetime.TheVariants as written
 use Rattle.bridge_decl.specs.declared.lifetimes.LifetimeEnv.{LifetimeEnv}
-use Rattle.bridge_decl.specs.declared.paths.PathType.{PathType}
 use Rattle.bridge_decl.specs.Lifetimes.{lifetime_names}
 use Rattle.bridge_text.specs.NameIndex.{number_of}
 use Rattle.bridge_ast.specs.Each.{each_after}
 use Rattle.hir_elide.specs.declared.fault.ElideFault.{ElideFault}
 use Rattle.hir_elide.specs.declared.fault.ElideFault.TheVariants as elide
-use Rattle.hir_elide.specs.Elision.{elided, elided_by}
+use Rattle.hir_elide.specs.Elision.{elided_by}
 use Rattle.hir_elide.specs.Generics.{all_or_fault, filled, lowered_generics, own_numbers, with_first}
 use Rattle.hir_elide.specs.Numbering.{Number, lifetime_number, lifetime_numbers, most, name_number, one_if_anonymous, within_most}
 use Rattle.hir_elide.specs.Occurrences.{Occurrence, Own, Role, Signature, count_of, is_borrow, is_counting, is_own, numbers_with, used_as}
@@ -19,8 +18,7 @@ use Rattle.hir_life.specs.declared.maybe_static.MaybeStatic.{MaybeStatic}
 use Rattle.hir_life.specs.declared.maybe_static.MaybeStatic.TheVariants.{NonStatic}
 use Rattle.hir_number.specs.declared.fault.NumberFault.{NumberFault}
 use Rattle.hir_number.specs.declared.fault.NumberFault.TheVariants as fault
-use Rattle.hir_number.specs.Faults.{of_elide, of_elided}
-use Rattle.hir_number.specs.Naming.{Definition}
+use Rattle.hir_number.specs.Faults.{of_elided}
 use Rattle.hir_number.specs.Numbers.{Answer, all_answers, answers, use_answer, with_answer}
 use Rattle.hir_number.specs.Occurrences.{has_own, is_own_use, own_occurrences, path_occurrences, returned_occurrences, signature_with, use_occurrences}
 use Rattle.hir_number.specs.Signatures.{Placed}

@@ -1,5 +1,5 @@
 -- Numbering as it goes gives each use the answer that it has after the uses before it.
-use Rattle.std.proofs.Common.{◌≡◌, ℕ, List, [], ◌∷◌, ◌++◌, length, map, true, false, Bool, Option, Some, None, Ok, Err, Result, refl, sym, ap, subst, ◌∙◌, append_assoc}
+use Rattle.std.proofs.Common.{◌≡◌, ℕ, List, [], ◌∷◌, ◌++◌, true, false, Bool, Some, None, Ok, Err, Result, refl, sym, ap, ◌∙◌, append_assoc}
 use Rattle.std.specs.Prelude.{◌||◌}
 use Rattle.std.proofs.lemmas.List.{append-nil}
 use Rattle.bridge_decl.specs.declared.lifetimes.Lifetime.{Lifetime}
@@ -7,22 +7,20 @@ use Rattle.bridge_decl.specs.declared.lifetimes.LifetimeEnv.{LifetimeEnv}
 use Rattle.bridge_decl.specs.declared.paths.PathType.{PathType}
 use Rattle.bridge_ast.specs.Each.{each_after}
 use Rattle.bridge_ast.proofs.EachLemmas.{each-push}
-use Rattle.hir_elide.specs.declared.fault.ElideFault.{ElideFault}
 use Rattle.hir_elide.specs.Generics.{all_or_fault, filled, with_generics}
 use Rattle.hir_elide.specs.Numbering.{Number}
-use Rattle.hir_elide.specs.Occurrences.{Occurrence, Role, Signature}
+use Rattle.hir_elide.specs.Occurrences.{Occurrence, Signature}
 use Rattle.hir_elide.specs.Phases.{Phase, Using, Returning, Defining, lowered, with_uses}
 use Rattle.hir_life.specs.declared.maybe_static.MaybeStatic.{MaybeStatic}
 use Rattle.hir_number.specs.declared.fault.NumberFault.{NumberFault}
-use Rattle.hir_number.specs.declared.fault.NumberFault.TheVariants as fault
 use Rattle.hir_number.specs.Faults.{of_elided}
 use Rattle.hir_number.specs.Naming.{Definition}
 use Rattle.hir_number.specs.Numbers.{Answer, all_answers, answers, use_answer, with_answer}
-use Rattle.hir_number.specs.Occurrences.{has_own, is_own_use, meets_self, occurrences, signature_with, use_occurrences}
+use Rattle.hir_number.specs.Occurrences.{has_own, meets_self, occurrences, signature_with, use_occurrences}
 use Rattle.hir_number.specs.Shapes.{NumberLists}
-use Rattle.hir_number.specs.Signatures.{Placed, placed}
-use Rattle.hir_number.specs.Uses.{Use, One, Path}
-use Rattle.hir_number.specs.inside.Threads.{Run, with_next, given, in_order, standing}
+use Rattle.hir_number.specs.Signatures.{Placed}
+use Rattle.hir_number.specs.Uses.{One, Path}
+use Rattle.hir_number.specs.inside.Threads.{Run, with_next, given, standing}
 use Rattle.hir_number.proofs.UsesLemmas.{use_run, uses_run}
 
 -- a use in its part of the signature, on its way

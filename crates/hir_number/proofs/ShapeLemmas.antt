@@ -6,7 +6,7 @@ use Rattle.bridge_decl.specs.declared.paths.PathType.{PathType}
 use Rattle.bridge_decl.specs.declared.types.Mutability.{Mutability}
 use Rattle.bridge_decl.specs.declared.types.TypeName.{TypeName, roll-TypeName, map-TypeName}
 use Rattle.bridge_decl.specs.declared.types.TypeName.TheOpen.{TypeName-F}
-use Rattle.bridge_decl.specs.declared.types.TypeName.TheFolds.{fold-TypeName, fold-roll-TypeName, ind-TypeName}
+use Rattle.bridge_decl.specs.declared.types.TypeName.TheFolds.{fold-roll-TypeName, ind-TypeName}
 use Rattle.hir_elide.specs.Occurrences.{Signature}
 use Rattle.hir_elide.specs.Phases.{Phase}
 use Rattle.hir_life.specs.declared.maybe_static.MaybeStatic.{MaybeStatic}

@@ -1,40 +1,34 @@
 -- What comes of a signature as it is gone through has the numbers of its uses, in order, and is of its shape.
-use Rattle.std.proofs.Common.{◌≡◌, ℕ, List, [], ◌∷◌, ◌++◌, length, map, true, false, Bool, Option, Some, None, Ok, Err, Result, refl, sym, ap, subst, ◌∙◌, append_assoc}
+use Rattle.std.proofs.Common.{◌≡◌, List, [], ◌∷◌, ◌++◌, map, true, Option, Some, None, Ok, Err, Result, refl, sym, ap, subst, ◌∙◌}
 use Rattle.std.specs.Prelude.{⊤, option_map}
 use Rattle.std.specs.List.{flat_map}
 use Rattle.std.proofs.lemmas.List.{append-nil}
-use Rattle.bridge_decl.specs.declared.lifetimes.Lifetime.{Lifetime}
-use Rattle.bridge_decl.specs.declared.lifetimes.LifetimeEnv.{LifetimeEnv}
 use Rattle.bridge_decl.specs.declared.methods.Param.{Param}
 use Rattle.bridge_decl.specs.declared.methods.SelfParam.{SelfParam}
 use Rattle.bridge_decl.specs.declared.structs.Field.{Field}
-use Rattle.bridge_decl.specs.declared.structs.Struct.{Struct}
 use Rattle.bridge_decl.specs.declared.traits.TraitMethod.{TraitMethod}
 use Rattle.bridge_decl.specs.declared.traits.TraitSelfParam.{TraitSelfParam}
-use Rattle.bridge_decl.specs.declared.types.Mutability.{Mutability}
 use Rattle.bridge_decl.specs.declared.types.TypeName.{TypeName}
 use Rattle.hir_elide.specs.Occurrences.{Borrow, Counting, Signature}
-use Rattle.hir_elide.specs.Phases.{Phase, Using, Returning, Defining}
-use Rattle.hir_elide.specs.Signature.{begun, environment_of}
-use Rattle.hir_life.specs.declared.maybe_static.MaybeStatic.{MaybeStatic}
+use Rattle.hir_elide.specs.Phases.{Phase, Using, Returning}
+use Rattle.hir_elide.specs.Signature.{environment_of}
 use Rattle.hir_life.specs.Environment.{Environment}
 use Rattle.hir_number.specs.declared.fault.NumberFault.{NumberFault}
-use Rattle.hir_number.specs.declared.numbered.Kind.{Kind}
 use Rattle.hir_number.specs.declared.numbered.NumberedType.{NumberedType}
 use Rattle.hir_number.specs.declared.numbered.Target.{Target}
 use Rattle.hir_number.specs.declared.numbered.TraitTarget.{TraitTarget}
 use Rattle.hir_number.specs.declared.signature.NumberedSignature.{NumberedSignature}
 use Rattle.hir_number.specs.declared.trait_methods.NumberedTraitMethod.{NumberedTraitMethod}
-use Rattle.hir_number.specs.Naming.{Definition, Naming, trait_found, type_found}
+use Rattle.hir_number.specs.Naming.{Naming, trait_found, type_found}
 use Rattle.hir_number.specs.Numbered.{numbers_of, numbers_of_each, output_numbers, receiver_numbers, receiver_shape, target_of, trait_numbers_of, trait_receiver_numbers, trait_receiver_shape, trait_target_of}
 use Rattle.hir_number.specs.Shapes.{NumberLists, bare, bare_borrow, bare_target, bare_trait, borrow_numbers, borrow_shape, numbers_in, shape}
 use Rattle.hir_number.specs.Signatures.{Placed, output_uses, param_uses, placed, receiver_borrow, receiver_uses, signature_uses, trait_borrow, trait_receiver_uses}
-use Rattle.hir_number.specs.Uses.{Use, borrow_uses, concatenated, type_uses}
+use Rattle.hir_number.specs.Uses.{Use, borrow_uses, type_uses}
 use Rattle.hir_number.specs.inside.Runs.{finished, inputs_run, output_run, params_run, receiver_run, returned_run, signature_run, trait_inputs_run, trait_method_run, trait_receiver_run}
-use Rattle.hir_number.specs.inside.Threads.{Run, ◌>>◌, borrow_run, given, in_order, path_run, target_run, trait_run, trait_target_run, type_run, with_next}
+use Rattle.hir_number.specs.inside.Threads.{Run, ◌>>◌, borrow_run, given, in_order, path_run, trait_run, type_run, with_next}
 use Rattle.hir_number.proofs.FlatLemmas.{placed_run}
 use Rattle.hir_number.proofs.ShapeLemmas.{Bears, OkIs, bears_at, bears_each, bears_given, bears_next, borrow_bears, target_bears, trait_bears, type_bears}
-use Rattle.hir_number.proofs.UsesLemmas.{FlatBy, Flat, assoc, flat_borrow, flat_each_of, flat_given, flat_one, flat_path, flat_trait, flat_two, flat_type, same_next, use_run, uses_run}
+use Rattle.hir_number.proofs.UsesLemmas.{FlatBy, Flat, assoc, flat_borrow, flat_each_of, flat_given, flat_one, flat_path, flat_trait, flat_two, flat_type, same_next, use_run}
 
 -- ---- numbers
 

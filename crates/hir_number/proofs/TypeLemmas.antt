@@ -1,5 +1,5 @@
 -- Types of two parts, of which the one is numbered after the other.
-use Rattle.std.proofs.Common.{rules, ◌≡◌, ℕ, Option, Ok, Err, Result, refl, sym, ap, subst, ◌∙◌}
+use Rattle.std.proofs.Common.{rules, ◌≡◌, ℕ, Option, Ok, Err, Result, sym, ap, subst, ◌∙◌}
 use Rattle.bridge_decl.specs.declared.lifetimes.Lifetime.{Lifetime}
 use Rattle.bridge_decl.specs.declared.types.Mutability.{Mutability}
 use Rattle.bridge_decl.specs.declared.types.StdlibOrDiplomat.{StdlibOrDiplomat}

@@ -1,15 +1,13 @@
 -- The numbers in a type are those of its uses, in order.
-use Rattle.std.proofs.Common.{◌≡◌, ℕ, List, [], ◌∷◌, ◌++◌, length, map, true, false, Bool, Option, Some, None, Ok, Err, Result, refl, sym, ap, subst, ◌∙◌, append_assoc}
+use Rattle.std.proofs.Common.{◌≡◌, ℕ, List, [], ◌∷◌, ◌++◌, map, true, false, Bool, Option, Some, None, Ok, Err, Result, refl, sym, ap, subst, ◌∙◌}
 use Rattle.std.specs.Prelude.{option_map}
 use Rattle.std.specs.List.{flat_map}
-use Rattle.std.proofs.lemmas.List.{append-nil}
 use Rattle.bridge_decl.specs.declared.lifetimes.Lifetime.{Lifetime}
 use Rattle.bridge_decl.specs.declared.paths.PathType.{PathType}
 use Rattle.bridge_decl.specs.declared.types.Mutability.{Mutability}
 use Rattle.bridge_decl.specs.declared.types.TypeName.{TypeName, roll-TypeName, map-TypeName}
 use Rattle.bridge_decl.specs.declared.types.TypeName.TheOpen.{TypeName-F}
-use Rattle.bridge_decl.specs.declared.types.TypeName.TheFolds.{fold-TypeName, fold-roll-TypeName, ind-TypeName}
-use Rattle.hir_elide.specs.declared.fault.ElideFault.{ElideFault}
+use Rattle.bridge_decl.specs.declared.types.TypeName.TheFolds.{fold-roll-TypeName, ind-TypeName}
 use Rattle.hir_elide.specs.Occurrences.{Signature}
 use Rattle.hir_elide.specs.Phases.{Phase}
 use Rattle.hir_life.specs.declared.maybe_static.MaybeStatic.{MaybeStatic}

@@ -1,5 +1,5 @@
 -- Each number of a signature is one of its lifetimes.
-use Rattle.std.proofs.Common.{◌≡◌, arith, ℕ, zero, suc, ◌+◌, ◌<◌, ◌≤◌, List, [], ◌∷◌, ◌++◌, length, map, true, false, Bool, Option, Some, None, Ok, Err, Result, refl, sym, ap, subst, ◌∙◌, append_assoc}
+use Rattle.std.proofs.Common.{◌≡◌, arith, ℕ, zero, suc, ◌<◌, ◌≤◌, List, [], ◌∷◌, ◌++◌, length, map, true, false, Bool, Option, Some, None, Ok, Err, Result, refl, sym, ap, subst, ◌∙◌, append_assoc}
 use Rattle.std.specs.Prelude.{nat_lt, if◌then◌else◌, ⊤, IfOk}
 use Rattle.std.specs.List.{All}
 use Rattle.std.proofs.lemmas.List.{append-nil, length-map, map-append}
@@ -14,7 +14,7 @@ use Rattle.bridge_ast.specs.Each.{each_after}
 use Rattle.bridge_ast.proofs.EachLemmas.{each-push}
 use Rattle.hir_elide.specs.declared.fault.ElideFault.{ElideFault}
 use Rattle.hir_elide.specs.declared.fault.ElideFault.TheVariants as elide
-use Rattle.hir_elide.specs.Elision.{elided, elided_by}
+use Rattle.hir_elide.specs.Elision.{elided_by}
 use Rattle.hir_elide.specs.Generics.{all_or_fault, filled, lowered_generics, own_numbers, with_first, with_generics, with_own}
 use Rattle.hir_elide.specs.Numbering.{Number, count_after, lifetime_number, lifetime_numbers, most, name_number, one_if_anonymous, within_most}
 use Rattle.hir_elide.specs.Occurrences.{Occurrence, Own, Role, Signature, count_of, is_borrow, is_counting, is_own, numbers_with, used_as}
@@ -27,12 +27,11 @@ use Rattle.hir_life.specs.declared.maybe_static.MaybeStatic.TheVariants.{Static,
 use Rattle.hir_number.specs.declared.fault.NumberFault.{NumberFault}
 use Rattle.hir_number.specs.declared.fault.NumberFault.TheVariants as fault
 use Rattle.hir_number.specs.Faults.{of_elided}
-use Rattle.hir_number.specs.Naming.{Definition}
 use Rattle.hir_number.specs.Numbered.{AreWithin, IsWithin}
 use Rattle.hir_number.specs.Numbers.{Answer, all_answers, answers, signature_numbers, use_answer, with_answer}
 use Rattle.hir_number.specs.Occurrences.{has_own, occurrences, signature_with, use_occurrences}
 use Rattle.hir_number.specs.Signatures.{Placed}
-use Rattle.hir_number.specs.Uses.{Use, One, Path}
+use Rattle.hir_number.specs.Uses.{One, Path}
 use Rattle.hir_number.proofs.FaultLemmas.{Each}
 use Rattle.hir_number.proofs.FlatLemmas.{grows, made, one_grows, path_grows}
 

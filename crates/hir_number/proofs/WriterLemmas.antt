@@ -1,5 +1,5 @@
 -- Parameters without the trailing writer.
-use Rattle.std.proofs.Common.{◌≡◌, ℕ, List, [], ◌∷◌, ◌++◌, true, false, Bool, refl, sym, ap, subst, ◌∙◌}
+use Rattle.std.proofs.Common.{◌≡◌, List, [], ◌∷◌, ◌++◌, true, false, Bool, refl, sym, ap, ◌∙◌}
 use Rattle.std.specs.Prelude.{if◌then◌else◌}
 use Rattle.bridge_decl.specs.declared.methods.Param.{Param}
 use Rattle.hir_number.specs.Signatures.{is_writer, without_writer}

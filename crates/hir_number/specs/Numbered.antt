@@ -1,9 +1,8 @@
 -- A signature or a definition whose lifetimes have numbers: it is as it is declared, but for the lifetimes, and the numbers in it
 -- are those of its uses, in order.
-use Rattle.std.specs.Prelude.{◌≡◌, ◌<◌, ⊤, ℕ, List, [], ◌∷◌, ◌++◌, map, option_map, Option, Some, None, Result, Ok, Err}
+use Rattle.std.specs.Prelude.{◌≡◌, ◌<◌, ⊤, ℕ, List, [], ◌∷◌, ◌++◌, map, option_map, Option, Some, None, Ok}
 use Rattle.std.specs.List.{All}
 use Rattle.bridge_decl.specs.declared.functions.Function.{Function}
-use Rattle.bridge_decl.specs.declared.lifetimes.Lifetime.{Lifetime}
 use Rattle.bridge_decl.specs.declared.lifetimes.LifetimeEnv.{LifetimeEnv}
 use Rattle.bridge_decl.specs.declared.methods.Method.{Method}
 use Rattle.bridge_decl.specs.declared.methods.Param.{Param}

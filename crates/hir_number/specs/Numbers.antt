@@ -1,5 +1,5 @@
 -- The numbers of a signature's lifetimes: those of each use are a function of the declared names and of the uses before it.
-use Rattle.std.specs.Prelude.{ℕ, List, [], ◌∷◌, length, Option, Some, None, Result, Ok, Err, nat_lt, if◌then◌else◌}
+use Rattle.std.specs.Prelude.{ℕ, List, [], ◌∷◌, length, Some, None, Result, Ok, Err, nat_lt, if◌then◌else◌}
 use Rattle.bridge_decl.specs.declared.lifetimes.LifetimeEnv.{LifetimeEnv}
 use Rattle.bridge_ast.specs.Each.{each}
 use Rattle.hir_elide.specs.declared.fault.ElideFault.TheVariants as elide

@@ -6,7 +6,7 @@ use Rattle.bridge_decl.specs.declared.lifetimes.Lifetime.{Lifetime}
 use Rattle.bridge_decl.specs.declared.lifetimes.LifetimeEnv.{LifetimeEnv}
 use Rattle.bridge_ast.specs.Each.{each}
 use Rattle.hir_elide.specs.Occurrences.{Role, Own, Occurrence, Signature}
-use Rattle.hir_elide.specs.Phases.{Phase, Using, Returning, Defining, occurring}
+use Rattle.hir_elide.specs.Phases.{Using, Returning, Defining, occurring}
 use Rattle.hir_number.specs.Signatures.{Placed}
 use Rattle.hir_number.specs.Uses.{Use, One, Path, lifetimes_used}
 

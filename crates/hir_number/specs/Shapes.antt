@@ -1,11 +1,10 @@
 -- The numbers in a numbered type, and the type without them: a type is numbered where the latter is that of the declared type,
 -- and the numbers are those of its uses.
-use Rattle.std.specs.Prelude.{ℕ, List, [], ◌∷◌, ◌++◌, option_map, Option, Some, None}
+use Rattle.std.specs.Prelude.{ℕ, List, [], ◌∷◌, ◌++◌, Option, Some, None}
 use Rattle.bridge_decl.specs.declared.lifetimes.Lifetime.{Lifetime}
 use Rattle.bridge_decl.specs.declared.types.Mutability.{Mutability}
 use Rattle.bridge_decl.specs.declared.types.TypeName.{TypeName, fold-TypeName}
 use Rattle.bridge_decl.specs.declared.types.TypeName.TheOpen.{TypeName-F}
-use Rattle.bridge_ast.specs.declared.place.ItemPlace.{ItemPlace}
 use Rattle.hir_life.specs.declared.maybe_static.MaybeStatic.{MaybeStatic}
 use Rattle.hir_life.specs.declared.maybe_static.MaybeStatic.TheVariants.{Static}
 use Rattle.hir_number.specs.declared.numbered.Kind.{Kind}

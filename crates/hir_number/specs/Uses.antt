@@ -1,7 +1,7 @@
 -- The lifetimes that a type uses, in order, each where it stands: that of a reference or slice before those inside, and a
 -- path's generics filled up to as many as its definition has. In `&'a Foo<'b>` these are `'a`, and then `'b` with those that
 -- `Foo` has more.
-use Rattle.std.specs.Prelude.{ℕ, List, [], ◌∷◌, ◌++◌, map, option_map, Bool, true, false, Option, Some, None}
+use Rattle.std.specs.Prelude.{List, [], ◌∷◌, ◌++◌, option_map, Bool, true, false, Option, Some, None}
 use Rattle.std.specs.List.{flat_map}
 use Rattle.bridge_decl.specs.declared.lifetimes.Lifetime.{Lifetime}
 use Rattle.bridge_decl.specs.declared.paths.PathType.{PathType}

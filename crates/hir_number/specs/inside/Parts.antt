@@ -1,5 +1,5 @@
 -- What the code keeps of a definition that a path names.
-use Rattle.std.specs.Prelude.{ℕ, List, length, Bool, Option, Some, None, Ok, Err, nat_lt, if◌then◌else◌}
+use Rattle.std.specs.Prelude.{ℕ, List, length, Bool, Option, Some, None, Err, nat_lt, if◌then◌else◌}
 use Rattle.std.specs.Option.{option_copied}
 use Rattle.bridge_decl.specs.declared.lifetimes.LifetimeEnv.{LifetimeEnv}
 use Rattle.bridge_decl.specs.declared.lifetimes.Lifetime.{Lifetime}

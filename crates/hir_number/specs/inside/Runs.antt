@@ -1,12 +1,10 @@
 -- Signatures and definitions on their way: each part is numbered after those before it.
-use Rattle.std.specs.Prelude.{◌≡◌, ◌⊎◌, ⊤, ℕ, List, length, map, true, Option, Some, None, Result, Ok, Err, nat_lt, if◌then◌else◌}
-use Rattle.bridge_decl.specs.declared.lifetimes.Lifetime.{Lifetime}
+use Rattle.std.specs.Prelude.{◌≡◌, ◌⊎◌, ⊤, List, length, map, true, Option, Some, None, Result, Ok, Err, nat_lt, if◌then◌else◌}
 use Rattle.bridge_decl.specs.declared.methods.Param.{Param}
 use Rattle.bridge_decl.specs.declared.methods.SelfParam.{SelfParam}
 use Rattle.bridge_decl.specs.declared.structs.Field.{Field}
 use Rattle.bridge_decl.specs.declared.traits.TraitMethod.{TraitMethod}
 use Rattle.bridge_decl.specs.declared.traits.TraitSelfParam.{TraitSelfParam}
-use Rattle.bridge_decl.specs.declared.types.Mutability.{Mutability}
 use Rattle.bridge_decl.specs.declared.types.TypeName.{TypeName}
 use Rattle.hir_elide.specs.Occurrences.{Borrow, Counting, Signature}
 use Rattle.hir_elide.specs.Phases.{Phase, Using, Returning}
@@ -15,7 +13,6 @@ use Rattle.hir_elide.specs.Numbering.{most}
 use Rattle.hir_elide.specs.declared.fault.ElideFault.TheVariants as elide
 use Rattle.bridge_decl.specs.declared.lifetimes.LifetimeEnv.{LifetimeEnv}
 use Rattle.hir_number.specs.declared.fault.NumberFault.TheVariants as fault
-use Rattle.hir_life.specs.declared.maybe_static.MaybeStatic.{MaybeStatic}
 use Rattle.hir_life.specs.Declarations.{HasIdents}
 use Rattle.hir_life.specs.Environment.{Environment}
 use Rattle.hir_number.specs.declared.fault.NumberFault.{NumberFault}

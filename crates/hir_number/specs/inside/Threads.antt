@@ -6,7 +6,6 @@ use Rattle.bridge_decl.specs.declared.types.Mutability.{Mutability}
 use Rattle.bridge_decl.specs.declared.types.TypeName.{TypeName, fold-TypeName}
 use Rattle.bridge_decl.specs.declared.types.TypeName.TheOpen.{TypeName-F}
 use Rattle.bridge_ast.specs.declared.place.ItemPlace.{ItemPlace}
-use Rattle.hir_elide.specs.declared.fault.ElideFault.{ElideFault}
 use Rattle.hir_elide.specs.Generics.{filled, with_generics}
 use Rattle.hir_elide.specs.Occurrences.{Signature}
 use Rattle.hir_elide.specs.Phases.{Phase, lowered, with_uses}
@@ -21,7 +20,7 @@ use Rattle.hir_number.specs.declared.numbered.NumberedType.TheOpen.{NumberedType
 use Rattle.hir_number.specs.Faults.{of_elided}
 use Rattle.hir_number.specs.Naming.{Definition, Naming, trait_found, type_found}
 use Rattle.hir_number.specs.Numbers.{use_answer}
-use Rattle.hir_number.specs.Uses.{Use, One, Path}
+use Rattle.hir_number.specs.Uses.{Path}
 
 -- what comes of a part of a signature, after those before it
 abbrev pub Run : Type 0 → Type 0

@@ -1,4 +1,4 @@
-use Rattle.std.proofs.Common.{◌≡◌, drop, map}
+use Rattle.std.proofs.Common.{drop, map}
 use Rattle.hir_elide.specs.Occurrences.{Signature}
 use Rattle.hir_number.specs.Naming.{IsNaming, Naming}
 use Rattle.hir_number.specs.inside.Runs.{params_run}
