@@ -19,12 +19,12 @@ pub record PlacedLink : Type 0 where
   pub place : List ℕ
   pub link : RustLink
 
-abbrev pub placed : List ℕ → RustLink → PlacedLink
-placed place link = record { place = place; link = link }
+abbrev pub link_at : List ℕ → RustLink → PlacedLink
+link_at place link = record { place = place; link = link }
 
 -- those of one declaration
 abbrev pub docs_links : List ℕ → Docs → List PlacedLink
-docs_links place docs = map (placed place) docs.links
+docs_links place docs = map (link_at place) docs.links
 
 -- where an item or a method stands
 abbrev pub printed_place : List (List ℕ) → List ℕ → Option (List ℕ) → List ℕ

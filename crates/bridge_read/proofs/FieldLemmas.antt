@@ -18,7 +18,7 @@ use Rattle.bridge_read.specs.declared.keys.Key.{Key}
 use Rattle.bridge_read.specs.declared.fields.Member.{Member}
 use Rattle.bridge_read.specs.declared.fault.Fault.{Fault}
 use Rattle.bridge_read.specs.Keys.{key_text}
-use Rattle.bridge_read.specs.inside.Left.{Slots, all_seen, are_apart, held_at, held_from, live_from, number_of, numbered, or_unknown, place_of, slot, without}
+use Rattle.bridge_read.specs.inside.Left.{Slots, all_seen, are_apart, held_at, held_from, live_from, key_number, numbered, or_unknown, place_of, slot, without}
 use Rattle.bridge_read.specs.Form.{add_live, live, members_in, sole}
 use Rattle.bridge_read.specs.Reading.{◌>>=◌, is_one_of, known, not_null, only, under, unless_known}
 use Rattle.bridge_read.specs.inside.Given.{Stops}
@@ -48,28 +48,28 @@ first false (Some m) e = absurd cc
 
 -- ---- the first key with a text
 
-found_key : (ks : List Key) (i : ℕ) (k : Key) (text : List ℕ) → i < length ks → number_of (take i ks) text ≡ None
-    → bytes_eq (key_text (get_or ks i k)) text ≡ true → number_of ks text ≡ Some i
+found_key : (ks : List Key) (i : ℕ) (k : Key) (text : List ℕ) → i < length ks → key_number (take i ks) text ≡ None
+    → bytes_eq (key_text (get_or ks i k)) text ≡ true → key_number ks text ≡ Some i
 found_key [] i d text lt before e = absurd (omega arith)
 found_key (k ∷ ks) zero d text lt before e = rw e refl
 found_key (k ∷ ks) (suc i) d text lt before e =
-    let h = not_here (bytes_eq (key_text k) text) (number_of (take i ks) text) before in
+    let h = not_here (bytes_eq (key_text k) text) (key_number (take i ks) text) before in
     rw (h.0, found_key ks i d text (omega arith) h.1 e) refl
 
-no_key : (ks : List Key) (i : ℕ) (k : Key) (text : List ℕ) → i < length ks → number_of (take i ks) text ≡ None
-    → bytes_eq (key_text (get_or ks i k)) text ≡ false → number_of (take (suc i) ks) text ≡ None
+no_key : (ks : List Key) (i : ℕ) (k : Key) (text : List ℕ) → i < length ks → key_number (take i ks) text ≡ None
+    → bytes_eq (key_text (get_or ks i k)) text ≡ false → key_number (take (suc i) ks) text ≡ None
 no_key [] i d text lt before e = absurd (omega arith)
 no_key (k ∷ ks) zero d text lt before e = rw e refl
 no_key (k ∷ ks) (suc i) d text lt before e =
-    let h = not_here (bytes_eq (key_text k) text) (number_of (take i ks) text) before in
+    let h = not_here (bytes_eq (key_text k) text) (key_number (take i ks) text) before in
     rw (h.0, no_key ks i d text (omega arith) h.1 e) refl
 
-pub found_key_here : (ks : List Key) (i : ℕ) (k : Key) (written text : List ℕ) → i < length ks → number_of (take i ks) text ≡ None
-    → written ≡ key_text (get_or ks i k) → bytes_eq written text ≡ true → number_of ks text ≡ Some i
+pub found_key_here : (ks : List Key) (i : ℕ) (k : Key) (written text : List ℕ) → i < length ks → key_number (take i ks) text ≡ None
+    → written ≡ key_text (get_or ks i k) → bytes_eq written text ≡ true → key_number ks text ≡ Some i
 found_key_here ks i k written text lt before named e = found_key ks i k text lt before (rw (← named) e)
 
-pub no_key_yet : (ks : List Key) (i : ℕ) (k : Key) (written text : List ℕ) → i < length ks → number_of (take i ks) text ≡ None
-    → written ≡ key_text (get_or ks i k) → bytes_eq written text ≡ false → number_of (take (i + 1) ks) text ≡ None
+pub no_key_yet : (ks : List Key) (i : ℕ) (k : Key) (written text : List ℕ) → i < length ks → key_number (take i ks) text ≡ None
+    → written ≡ key_text (get_or ks i k) → bytes_eq written text ≡ false → key_number (take (i + 1) ks) text ≡ None
 no_key_yet ks i k written text lt before named e = rw add-one (no_key ks i k text lt before (rw (← named) e))
 
 -- ---- the first member of a number
@@ -219,7 +219,7 @@ is_number n (Some m) = nat_eq m n
 -- these keys have the numbers from there on among all
 abbrev AreNumbered : List Key → ℕ → List Key → Type 0
 AreNumbered all n [] = Unit {0}
-AreNumbered all n (k ∷ keys) = ((text : List ℕ) → is_number n (number_of all text) ≡ bytes_eq (key_text k) text) × AreNumbered all (suc n) keys
+AreNumbered all n (k ∷ keys) = ((text : List ℕ) → is_number n (key_number all text) ≡ bytes_eq (key_text k) text) × AreNumbered all (suc n) keys
 
 both : (b c : Bool) → b && c ≡ true → (b ≡ true) × (c ≡ true)
 both true c e = (refl, e)
@@ -255,14 +255,14 @@ shifted : (k : Key) (all : List Key) (n : ℕ) (keys : List Key) → is_one_of k
 shifted k all n [] apart are = tt
 shifted k all n (j ∷ keys) apart are =
     let h = neither (bytes_eq (key_text j) (key_text k)) (is_one_of keys (key_text k)) apart in
-    (λ text. shifted_at (bytes_eq (key_text k) text) k j text n (number_of all text) refl h.0 (are.0 text), shifted k all (suc n) keys h.1 are.1)
+    (λ text. shifted_at (bytes_eq (key_text k) text) k j text n (key_number all text) refl h.0 (are.0 text), shifted k all (suc n) keys h.1 are.1)
 
 all_numbered : (keys : List Key) → are_apart keys ≡ true → AreNumbered keys zero keys
 unfolding are_apart
 all_numbered [] apart = tt
 all_numbered (k ∷ keys) apart =
     let h = both (not (is_one_of keys (key_text k))) (are_apart keys) apart in
-    (λ text. first_number (bytes_eq (key_text k) text) (number_of keys text), shifted k keys zero keys (none_of (is_one_of keys (key_text k)) h.0) (all_numbered keys h.1))
+    (λ text. first_number (bytes_eq (key_text k) text) (key_number keys text), shifted k keys zero keys (none_of (is_one_of keys (key_text k)) h.0) (all_numbered keys h.1))
 
 -- members one after the other, in a list of their own
 abbrev after_it : (ℕ → Slots → Slots) → Option ℕ → List ℕ → Result Slots Fault → Result Slots Fault
@@ -270,7 +270,7 @@ after_it f o text rest = or_unknown o text (λ n. rest >>= (λ slots. Ok (f n sl
 
 abbrev listed : List Key → Members → Result Slots Fault
 listed keys no_members = Ok []
-listed keys (member text d ms) = after_it (λ n slots. slot n (not_null d) ++ slots) (number_of keys text) text (listed keys ms)
+listed keys (member text d ms) = after_it (λ n slots. slot n (not_null d) ++ slots) (key_number keys text) text (listed keys ms)
 
 front_case : (o : Option ℕ) (text : List ℕ) (x : Option Data) (slots : Slots) (rest : Result Slots Fault) (next : ℕ → Result Slots Fault)
     → ((n : ℕ) → next n ≡ (rest >>= (λ found. Ok ((slots ++ slot n x) ++ found))))
@@ -281,7 +281,7 @@ front_case (Some n) text x slots (Err fault) next e = e n
 
 front : (keys : List Key) (slots : Slots) (ms : Members) → numbered keys slots ms ≡ (listed keys ms >>= (λ found. Ok (slots ++ found)))
 front keys slots no_members = ap Ok (sym (append-nil slots))
-front keys slots (member text d ms) = front_case (number_of keys text) text (not_null d) slots (listed keys ms) (λ n. numbered keys (slots ++ slot n (not_null d)) ms)
+front keys slots (member text d ms) = front_case (key_number keys text) text (not_null d) slots (listed keys ms) (λ n. numbered keys (slots ++ slot n (not_null d)) ms)
     (λ n. front keys (slots ++ slot n (not_null d)) ms)
 
 -- whether there are some
@@ -290,9 +290,9 @@ unit_of (Ok slots) = Ok tt
 unit_of (Err fault) = Err fault
 
 -- a key of a text has a number
-knows : (keys : List Key) (text : List ℕ) → is_some (number_of keys text) ≡ is_one_of keys text
+knows : (keys : List Key) (text : List ℕ) → is_some (key_number keys text) ≡ is_one_of keys text
 knows [] text = refl
-knows (k ∷ keys) text = knows_at (bytes_eq (key_text k) text) (number_of keys text) (is_one_of keys text) (knows keys text)
+knows (k ∷ keys) text = knows_at (bytes_eq (key_text k) text) (key_number keys text) (is_one_of keys text) (knows keys text)
   where
     knows_at : (b : Bool) (others : Option ℕ) (one : Bool) → is_some others ≡ one → is_some (if b then Some 0 else option_map (λ n. suc n) others) ≡ b || one
     knows_at true others one e = refl
@@ -310,7 +310,7 @@ known_case f (Some n) false text rest others e is = absurd cc
 -- members are refused where one has a key that is none of these, with its fault
 as_known : (keys : List Key) (ms : Members) → unit_of (listed keys ms) ≡ known keys ms
 as_known keys no_members = refl
-as_known keys (member text d ms) = known_case (λ n slots. slot n (not_null d) ++ slots) (number_of keys text) (is_one_of keys text) text (listed keys ms) (known keys ms)
+as_known keys (member text d ms) = known_case (λ n slots. slot n (not_null d) ++ slots) (key_number keys text) (is_one_of keys text) text (listed keys ms) (known keys ms)
     (knows keys text) (as_known keys ms)
 
 -- ---- each name once
@@ -369,11 +369,11 @@ ok_is : (one other : Slots) (r : Result Slots Fault) → r ≡ Ok one → r ≡ 
 ok_is one other (Ok r) e f = cc
 ok_is one other (Err fault) e f = absurd cc
 
-module _ (keys : List Key) (k : Key) (n : ℕ) (numbers : (text : List ℕ) → is_number n (number_of keys text) ≡ bytes_eq (key_text k) text) where
+module _ (keys : List Key) (k : Key) (n : ℕ) (numbers : (text : List ℕ) → is_number n (key_number keys text) ≡ bytes_eq (key_text k) text) where
   held_under : (ms : Members) (slots : Slots) → AreDistinct ms → listed keys ms ≡ Ok slots → held_at n slots ≡ option_and_then not_null (get_member (key_text k) ms)
   held_under no_members slots once e = none_listed n slots (ok_is [] slots (Ok []) refl e)
   held_under (member text d ms) slots once e =
-      let h = given (λ m others. slot m (not_null d) ++ others) (number_of keys text) text (listed keys ms) slots e in
+      let h = given (λ m others. slot m (not_null d) ++ others) (key_number keys text) text (listed keys ms) slots e in
       let o = slice_cmp nat_cmp (key_text k) text in
       let eqs : is_eq o ≡ bytes_eq (key_text k) text = is_eq-slice_cmp (key_text k) text in
       let here : nat_eq h.0 n ≡ bytes_eq (key_text k) text = sym (ap (is_number n) h.2) ∙ numbers text in
@@ -381,7 +381,7 @@ module _ (keys : List Key) (k : Key) (n : ℕ) (numbers : (text : List ℕ) → 
       λ is. let same : key_text k ≡ text = (bytes_eq-Decides (key_text k) text).0 (sym eqs ∙ ap is_eq is) in rw same once.0 in
       rw h.4 (held_by o (bytes_eq (key_text k) text) h.0 n d h.1 (get_member (key_text k) ms) eqs here once_here (held_under ms h.1 once.1 h.3))
 
-under_members : (keys : List Key) (k : Key) (n : ℕ) (ms : Members) (slots : Slots) → ((text : List ℕ) → is_number n (number_of keys text) ≡ bytes_eq (key_text k) text)
+under_members : (keys : List Key) (k : Key) (n : ℕ) (ms : Members) (slots : Slots) → ((text : List ℕ) → is_number n (key_number keys text) ≡ bytes_eq (key_text k) text)
     → AreDistinct ms → listed keys ms ≡ Ok slots → held_at n slots ≡ under k (object ms)
 unfolding under
 under_members keys k n ms slots numbers once e = held_under keys k n numbers ms slots once e

@@ -9,7 +9,7 @@ ghost use Rattle.bridge_read.specs.declared.keys.Key.{Key as Name};
 ghost use Rattle.bridge_read.specs.Form.{add_live, live, sole};
 ghost use Rattle.bridge_read.specs.Reading.{flag_of, held_of, list_of, needed_of, not_null, optional_of, under};
 ghost use Rattle.bridge_read.specs.inside.Given.{Gives, GivesBy, held, needed, optional, some_of};
-ghost use Rattle.bridge_read.specs.inside.Left.{Finds, IsLeft, Opens, Takes, all_seen, are_apart, found_list, held_at, live_from, number_of, numbered, place_of, seen, slot, without};
+ghost use Rattle.bridge_read.specs.inside.Left.{Finds, IsLeft, Opens, Takes, all_seen, are_apart, found_list, held_at, live_from, key_number, numbered, place_of, seen, slot, without};
 
 use crate::fault::{Fault, ReadFault};
 use crate::keys::Key;
@@ -255,8 +255,8 @@ fn take(members: &mut Vec<Member>, number: usize) -> Option<Value>
 }
 
 /// The number of the key of that name.
-fn number_of(keys: &[Key], name: &str) -> Option<usize>
-    ensures { result ≡ number_of keys.now name.now }
+fn key_number(keys: &[Key], name: &str) -> Option<usize>
+    ensures { result ≡ key_number keys.now name.now }
 {
     for (number, key) in keys.iter().enumerate() {
         if key.text() == name {
@@ -293,7 +293,7 @@ fn number_all(
 {
     let mut found = Vec::with_capacity(alloc, members.len())?;
     for (name, value) in members {
-        match number_of(form, name.as_str()) {
+        match key_number(form, name.as_str()) {
             Some(number) => add(&mut found, number, value)?,
             None => return Err(ReadFault::Bad(Fault::unknown_key(alloc, name.as_str())?)),
         }

@@ -32,8 +32,8 @@ use Rattle.hir_number.specs.Uses.{type_uses}
 use Rattle.bridge_decl.specs.declared.structs.Field.{Field}
 use Rattle.std.specs.List.{flat_map}
 use Rattle.hir_number.specs.Signatures.{Placed, field_uses, function_uses, method_uses, output_uses, param_uses, receiver_borrow, receiver_uses, signature_uses, trait_method_uses, without_writer}
-use Rattle.hir_number.specs.inside.Runs.{fields_run, signature_run, trait_method_run, valued, whole_run, Starts, StartTells}
-use Rattle.hir_number.specs.inside.Threads.{RunTells, Meets, Run, given, standing, with_next}
+use Rattle.hir_number.specs.inside.Runs.{fields_run, signature_run, trait_method_run, run_value, whole_run, Starts, StartTells}
+use Rattle.hir_number.specs.inside.Threads.{RunTells, Meets, Run, given, standing, run_next}
 use Rattle.hir_number.proofs.FaultLemmas.{FineBy, IsLowered, answers_lowered}
 use Rattle.hir_number.proofs.FlatLemmas.{flat_all, placed_run}
 use Rattle.hir_number.proofs.SignatureLemmas.{EndIs, IsShaped, IsTraitShaped, end_bears, end_of, fields_bear, flat_fields, flat_placed, flat_signature, flat_trait_method, signature_end, trait_method_end}
@@ -54,7 +54,7 @@ abbrev second_or : {A B : Type 0} → B → Result (A × B) NumberFault → B
 second_or d (Ok both) = both.1
 second_or d (Err e) = d
 
-agree : {A : Type 0} (of : A → NumberLists) (t : Signature) (q : Result NumberLists NumberFault) (r : Result (A × Signature) NumberFault) → standing t q ≡ with_next r (λ x. given (of x)) → Agrees of t q r
+agree : {A : Type 0} (of : A → NumberLists) (t : Signature) (q : Result NumberLists NumberFault) (r : Result (A × Signature) NumberFault) → standing t q ≡ run_next r (λ x. given (of x)) → Agrees of t q r
 agree of t (Ok ns) (Ok both) h = (ap (first_or ns) h, sym (ap (second_or t) h))
 agree of t (Ok ns) (Err e) h = absurd cc
 agree of t (Err d) (Ok both) h = absurd cc
@@ -70,7 +70,7 @@ abbrev pub Comes_of : {A : Type 0} → LifetimeEnv → List Placed → (A → Nu
 Comes_of declared us of P n = (signature_numbers declared us ≡ Ok (of n)) × P n (signature_with declared us)
 
 ok_of : {A : Type 0} (t : Signature) (of : A → NumberLists) (P : A → Signature → Type 0) (n : A) (b : Bool) (q : Result NumberLists NumberFault) (r : Result (A × Signature) NumberFault)
-    → Agrees of t q r → EndIs P r → (if b then Err (fault.Elide elide.TooManyLifetimes) else valued r) ≡ Ok n
+    → Agrees of t q r → EndIs P r → (if b then Err (fault.Elide elide.TooManyLifetimes) else run_value r) ≡ Ok n
     → ((if b then Err (fault.Elide elide.TooManyLifetimes) else q) ≡ Ok (of n)) × P n t
 ok_of t of P n true q r same ends h = absurd cc
 ok_of t of P n false (Ok ns) (Ok both) same ends h =
@@ -81,7 +81,7 @@ ok_of t of P n false (Err d) (Ok both) same ends h = absurd same
 ok_of t of P n false (Err d) (Err e) same ends h = absurd cc
 
 err_of : {A : Type 0} (t : Signature) (of : A → NumberLists) (e : NumberFault) (b : Bool) (q : Result NumberLists NumberFault) (r : Result (A × Signature) NumberFault)
-    → Agrees of t q r → (if b then Err (fault.Elide elide.TooManyLifetimes) else valued r) ≡ Err e → (if b then Err (fault.Elide elide.TooManyLifetimes) else q) ≡ Err e
+    → Agrees of t q r → (if b then Err (fault.Elide elide.TooManyLifetimes) else run_value r) ≡ Err e → (if b then Err (fault.Elide elide.TooManyLifetimes) else q) ≡ Err e
 err_of t of e true q r same h = cc
 err_of t of e false (Ok ns) (Ok both) same h = absurd cc
 err_of t of e false (Ok ns) (Err d) same h = absurd same
@@ -166,19 +166,19 @@ not_more : (b : Bool) {A : Type 0} (r : Result A NumberFault) → b ≡ false �
 not_more true r h = absurd cc
 not_more false r h = refl
 
-start_tells : {A : Type 0} (declared : LifetimeEnv) (e : NumberFault) (r : Result (A × Signature) NumberFault) → RunTells e r → StartTells declared e (valued r)
+start_tells : {A : Type 0} (declared : LifetimeEnv) (e : NumberFault) (r : Result (A × Signature) NumberFault) → RunTells e r → StartTells declared e (run_value r)
 start_tells declared fault.NoMemory r h = tt
-start_tells declared fault.UnresolvedPath r h = ap valued h
-start_tells declared fault.LifetimeArity r h = ap valued h
-start_tells declared (fault.Elide elide.LifetimeUnknown) r h = ap valued h
-start_tells declared (fault.Elide elide.AnonymousInDefinition) r h = ap valued h
-start_tells declared (fault.Elide elide.ElisionNoSource) r h = ap valued h
-start_tells declared (fault.Elide elide.ElisionAmbiguous) r h = ap valued h
-start_tells declared (fault.Elide elide.TooManyLifetimes) r h = ap valued h
-start_tells declared (fault.Elide elide.BadIdent) r h = inl (ap valued h)
-start_tells declared (fault.Elide elide.NoMemory) r h = ap valued h
+start_tells declared fault.UnresolvedPath r h = ap run_value h
+start_tells declared fault.LifetimeArity r h = ap run_value h
+start_tells declared (fault.Elide elide.LifetimeUnknown) r h = ap run_value h
+start_tells declared (fault.Elide elide.AnonymousInDefinition) r h = ap run_value h
+start_tells declared (fault.Elide elide.ElisionNoSource) r h = ap run_value h
+start_tells declared (fault.Elide elide.ElisionAmbiguous) r h = ap run_value h
+start_tells declared (fault.Elide elide.TooManyLifetimes) r h = ap run_value h
+start_tells declared (fault.Elide elide.BadIdent) r h = inl (ap run_value h)
+start_tells declared (fault.Elide elide.NoMemory) r h = ap run_value h
 
-starts_met : {A : Type 0} (declared : LifetimeEnv) (result : Result A NumberFault) (r : Result (A × Signature) NumberFault) → Meets (λ _. ⊤) result r → Starts declared result (valued r)
+starts_met : {A : Type 0} (declared : LifetimeEnv) (result : Result A NumberFault) (r : Result (A × Signature) NumberFault) → Meets (λ _. ⊤) result r → Starts declared result (run_value r)
 starts_met declared (Ok x) (Ok both) h = ap (λ y. Ok y) (sym h.0)
 starts_met declared (Ok x) (Err e) h = absurd h
 starts_met declared (Err e) r h = start_tells declared e r h
@@ -191,7 +191,7 @@ is_false false h = refl
 pub starts_so : {A : Type 0} (declared : LifetimeEnv) (run : Run A) (result : Result A NumberFault) → ¬ (most < length declared.nodes) → Meets (λ _. ⊤) result (run (begun declared))
     → Starts declared result (whole_run declared run)
 starts_so declared run result few h =
-    subst (Starts declared result) (sym (not_more (nat_lt most (length declared.nodes)) (valued (run (begun declared))) (is_false (nat_lt most (length declared.nodes)) (λ e. few (ltb-true most (length declared.nodes) e)))))
+    subst (Starts declared result) (sym (not_more (nat_lt most (length declared.nodes)) (run_value (run (begun declared))) (is_false (nat_lt most (length declared.nodes)) (λ e. few (ltb-true most (length declared.nodes) e)))))
     (starts_met declared result (run (begun declared)) h)
 
 more : (b : Bool) {A : Type 0} (r : Result A NumberFault) → b ≡ true → (if b then Err (fault.Elide elide.TooManyLifetimes) else r) ≡ Err (fault.Elide elide.TooManyLifetimes)
@@ -200,7 +200,7 @@ more false r h = absurd cc
 
 -- where there are, that is told
 pub too_many_told : {A : Type 0} (declared : LifetimeEnv) (run : Run A) → most < length declared.nodes → whole_run declared run ≡ Err (fault.Elide elide.TooManyLifetimes)
-too_many_told declared run many = more (nat_lt most (length declared.nodes)) (valued (run (begun declared))) (lt-ltb most (length declared.nodes) many)
+too_many_told declared run many = more (nat_lt most (length declared.nodes)) (run_value (run (begun declared))) (lt-ltb most (length declared.nodes) many)
 
 -- a fault of the beginning
 pub starts_refused : {A : Type 0} (declared : LifetimeEnv) (run : Run A) (e : ElideFault) → IsOfNames e → (e ≡ elide.TooManyLifetimes → most < length declared.nodes) → (e ≡ elide.BadIdent → ¬ HasIdents declared)

@@ -20,7 +20,7 @@ use Rattle.hir_number.specs.Occurrences.{has_own, meets_self, occurrences, signa
 use Rattle.hir_number.specs.Shapes.{NumberLists}
 use Rattle.hir_number.specs.Signatures.{Placed}
 use Rattle.hir_number.specs.Uses.{One, Path}
-use Rattle.hir_number.specs.inside.Threads.{Run, with_next, given, standing}
+use Rattle.hir_number.specs.inside.Threads.{Run, run_next, given, standing}
 use Rattle.hir_number.proofs.UsesLemmas.{use_run, uses_run}
 
 -- a use in its part of the signature, on its way
@@ -78,7 +78,7 @@ module _ (declared : LifetimeEnv) (os : List Occurrence) where
   path_grows met false Defining path found = stays declared os met
   path_grows met true Defining path found = stays declared os met
 
-one_answer : (t : Signature) (r : Number) → with_next (standing t (of_elided r)) (λ n. given (n ∷ [])) ≡ standing t (of_elided (all_or_fault (r ∷ [])))
+one_answer : (t : Signature) (r : Number) → run_next (standing t (of_elided r)) (λ n. given (n ∷ [])) ≡ standing t (of_elided (all_or_fault (r ∷ [])))
 one_answer t (Ok n) = refl
 one_answer t (Err e) = refl
 
@@ -98,13 +98,13 @@ step declared before (phase, Path is_self path (Some found)) =
 abbrev answers_after : LifetimeEnv → List Placed → List Placed → List Answer
 answers_after declared before ps = each_after (λ b p. use_answer p.0 (signature_with declared b) p.1 ∷ []) before ps
 
-rest_answers : (v : Signature) (x : List (MaybeStatic ℕ)) (q : Result NumberLists NumberFault) → with_next (standing v q) (λ xs. given (x ∷ xs)) ≡ standing v (with_answer x q)
+rest_answers : (v : Signature) (x : List (MaybeStatic ℕ)) (q : Result NumberLists NumberFault) → run_next (standing v q) (λ xs. given (x ∷ xs)) ≡ standing v (with_answer x q)
 rest_answers v x (Ok xs) = refl
 rest_answers v x (Err e) = refl
 
 then_answers : (t v : Signature) (r : Answer) (rest : List Answer) (run : Run NumberLists) → run t ≡ standing v (all_answers rest)
-    → with_next (standing t r) (λ x. λ s. with_next (run s) (λ xs. given (x ∷ xs))) ≡ standing v (all_answers (r ∷ rest))
-then_answers t v (Ok x) rest run h = ap (λ q. with_next q (λ xs. given (x ∷ xs))) h ∙ rest_answers v x (all_answers rest)
+    → run_next (standing t r) (λ x. λ s. run_next (run s) (λ xs. given (x ∷ xs))) ≡ standing v (all_answers (r ∷ rest))
+then_answers t v (Ok x) rest run h = ap (λ q. run_next q (λ xs. given (x ∷ xs))) h ∙ rest_answers v x (all_answers rest)
 then_answers t v (Err e) rest run h = refl
 
 pub flat_after : (declared : LifetimeEnv) (before ps : List Placed)
@@ -113,7 +113,7 @@ flat_after declared before [] = ap (λ ps. Ok ([], signature_with declared ps)) 
 flat_after declared before (p ∷ ps) =
     let next : Run NumberLists = uses_run placed_run ps in
     let r = use_answer p.0 (signature_with declared before) p.1 in
-    ap (λ q. with_next q (λ x. λ s. with_next (next s) (λ xs. given (x ∷ xs)))) (step declared before p)
+    ap (λ q. run_next q (λ x. λ s. run_next (next s) (λ xs. given (x ∷ xs)))) (step declared before p)
     ∙ then_answers (signature_with declared (before ++ p ∷ [])) (signature_with declared ((before ++ p ∷ []) ++ ps)) r (answers_after declared (before ++ p ∷ []) ps) next
     (flat_after declared (before ++ p ∷ []) ps)
     ∙ ap (λ qs. standing (signature_with declared qs) (all_answers (answers_after declared before (p ∷ ps)))) (append_assoc before (p ∷ []) ps)

@@ -21,7 +21,7 @@ use Rattle.hir_number.specs.declared.numbered.Target.{Target}
 use Rattle.hir_number.specs.declared.numbered.TraitTarget.{TraitTarget}
 use Rattle.hir_number.specs.Naming.{Definition, Naming, trait_found, type_found}
 use Rattle.hir_number.specs.Shapes.{bare, bare_borrow, bare_optional, bare_target, bare_trait, borrow_shape, level_bare, level_shape, optional_shape, shape, target_shape, trait_shape}
-use Rattle.hir_number.specs.inside.Threads.{Run, ◌>>◌, with_next, given, in_order, lifetime_run, borrow_run, optional_run, generics_run, target, target_run, trait_target, trait_target_run, level_run, type_run}
+use Rattle.hir_number.specs.inside.Threads.{Run, ◌>>◌, run_next, given, in_order, lifetime_run, borrow_run, optional_run, generics_run, target, target_run, trait_target, trait_target_run, level_run, type_run}
 
 -- what comes is so
 abbrev pub OkIs : {A : Type 0} → (A → Type 0) → Result (A × Signature) NumberFault → Type 0
@@ -51,7 +51,7 @@ pub bears_at : {A : Type 0} (P : A → Type 0) (run : Run A) → Bears P run →
 unfolding Bears
 bears_at P run h s = h s
 
-next_ok : {A B : Type 0} (P : A → Type 0) (Q : B → Type 0) (r : Result (A × Signature) NumberFault) (next : A → Run B) → OkIs P r → ((x : A) (t : Signature) → P x → OkIs Q (next x t)) → OkIs Q (with_next r next)
+next_ok : {A B : Type 0} (P : A → Type 0) (Q : B → Type 0) (r : Result (A × Signature) NumberFault) (next : A → Run B) → OkIs P r → ((x : A) (t : Signature) → P x → OkIs Q (next x t)) → OkIs Q (run_next r next)
 next_ok P Q (Ok both) next h k = k both.0 both.1 h
 next_ok P Q (Err e) next h k = tt
 

@@ -25,7 +25,7 @@ use Rattle.hir_number.specs.Shapes.{NumberLists, bare, bare_borrow, bare_target,
 use Rattle.hir_number.specs.Signatures.{Placed, output_uses, param_uses, placed, receiver_borrow, receiver_uses, signature_uses, trait_borrow, trait_receiver_uses}
 use Rattle.hir_number.specs.Uses.{Use, borrow_uses, type_uses}
 use Rattle.hir_number.specs.inside.Runs.{finished, inputs_run, output_run, params_run, receiver_run, returned_run, signature_run, trait_inputs_run, trait_method_run, trait_receiver_run}
-use Rattle.hir_number.specs.inside.Threads.{Run, ◌>>◌, borrow_run, given, in_order, path_run, trait_run, type_run, with_next}
+use Rattle.hir_number.specs.inside.Threads.{Run, ◌>>◌, borrow_run, given, in_order, path_run, trait_run, type_run, run_next}
 use Rattle.hir_number.proofs.FlatLemmas.{placed_run}
 use Rattle.hir_number.proofs.ShapeLemmas.{Bears, OkIs, bears_at, bears_each, bears_given, bears_next, borrow_bears, target_bears, trait_bears, type_bears}
 use Rattle.hir_number.proofs.UsesLemmas.{FlatBy, Flat, assoc, flat_borrow, flat_each_of, flat_given, flat_one, flat_path, flat_trait, flat_two, flat_type, same_next, use_run}
@@ -47,7 +47,7 @@ flat_three {A = A} {B = B} of of' of'' all run run' run'' make us vs ws flat fla
     let both : Run (A × B) = run >> (λ x. run' >> (λ y. given (x, y))) in
     flat_two placed_run (λ (p : A × B). of p.0 ++ of' p.1) of'' all both run'' (λ p z. make p.0 p.1 z) (us ++ vs) ws
     (flat_two placed_run of of' (λ (p : A × B). of p.0 ++ of' p.1) run run' (λ x y. (x, y)) us vs flat flat' (λ x y. refl)) flat'' (λ p z. h p.0 p.1 z) s
-    ∙ ap (λ r. with_next r (λ x. given (all x)))
+    ∙ ap (λ r. run_next r (λ x. given (all x)))
     (assoc (run s) (λ x. run' >> (λ y. given (x, y))) (λ p. run'' >> (λ z. given (make p.0 p.1 z)))
     ∙ same_next (run s) _ _ (λ x t. assoc (run' t) (λ y. given (x, y)) (λ p. run'' >> (λ z. given (make p.0 p.1 z)))))
 
@@ -148,7 +148,7 @@ pub end_bears : {A : Type 0} (P : A → Type 0) (run : Run A) → Bears P run �
 end_bears P run h s = of_ok P (run s) (bears_at P run h s)
 
 end_next : {A B : Type 0} (P : A → Signature → Type 0) (Q : B → Signature → Type 0) (r : Result (A × Signature) NumberFault) (next : A → Run B)
-    → EndIs P r → ((x : A) (t : Signature) → P x t → EndIs Q (next x t)) → EndIs Q (with_next r next)
+    → EndIs P r → ((x : A) (t : Signature) → P x t → EndIs Q (next x t)) → EndIs Q (run_next r next)
 unfolding EndIs
 end_next P Q (Ok both) next h k = k both.0 both.1 h
 end_next P Q (Err e) next h k = tt

@@ -16,16 +16,16 @@ use Rattle.hir_number.specs.declared.numbered.NumberedType as numbered
 use Rattle.hir_number.specs.declared.numbered.NumberedType.TheFolds.{the_lemmas as numbered_lemmas}
 use Rattle.hir_number.specs.declared.numbered.NumberedType.TheOpen.{NumberedType-F}
 use Rattle.hir_number.specs.Naming.{Naming}
-use Rattle.hir_number.specs.inside.Threads.{Comes, Run, borrow_run, level_run, type_run, with_next}
+use Rattle.hir_number.specs.inside.Threads.{Comes, Run, borrow_run, level_run, type_run, run_next}
 
 -- one part and then another came, and a value is made of both
 two_come : {A B C : Type 0} (mid last : Signature → Type 0) (r : Result (A × Signature) NumberFault) (next : Run B) (make : A → B → C) (x : A) (y : B)
     → Comes mid x r → ((u : Signature) → mid u → Comes last y (next u))
-    → Comes last (make x y) (with_next r (λ a. λ s. with_next (next s) (λ b. λ t. Ok (make a b, t))))
+    → Comes last (make x y) (run_next r (λ a. λ s. run_next (next s) (λ b. λ t. Ok (make a b, t))))
 two_come {A = A} {B = B} {C = C} mid last (Ok both) next make x y comes more =
-    subst (λ a. Comes last (make x y) (with_next (next both.1) (λ b. λ t. Ok (make a b, t)))) comes.0 (end (next both.1) (more both.1 comes.1))
+    subst (λ a. Comes last (make x y) (run_next (next both.1) (λ b. λ t. Ok (make a b, t)))) comes.0 (end (next both.1) (more both.1 comes.1))
   where
-    end : (r : Result (B × Signature) NumberFault) → Comes last y r → Comes last (make x y) (with_next r (λ b. λ t. Ok (make x b, t)))
+    end : (r : Result (B × Signature) NumberFault) → Comes last y r → Comes last (make x y) (run_next r (λ b. λ t. Ok (make x b, t)))
     end (Ok last) h = (ap (make x) h.0, h.1)
     end (Err e) h = absurd h
 two_come mid last (Err e) next make x y comes more = absurd comes

@@ -22,7 +22,7 @@ use Rattle.hir_number.specs.declared.numbered.TraitTarget.{TraitTarget}
 use Rattle.hir_number.specs.Naming.{Definition, Naming, trait_found, type_found}
 use Rattle.hir_number.specs.Shapes.{NumberLists, borrow_numbers, level_numbers, numbers_in, optional_numbers}
 use Rattle.hir_number.specs.Uses.{Use, One, Path, borrow_uses, concatenated, level_uses, optional_uses, trait_use, type_use, type_uses}
-use Rattle.hir_number.specs.inside.Threads.{Run, ◌>>◌, with_next, given, in_order, lifetime_run, borrow_run, optional_run, generics_run, target, target_run, path_run, trait_target, trait_target_run, trait_run, level_run, type_run}
+use Rattle.hir_number.specs.inside.Threads.{Run, ◌>>◌, run_next, given, in_order, lifetime_run, borrow_run, optional_run, generics_run, target, target_run, path_run, trait_target, trait_target_run, trait_run, level_run, type_run}
 
 -- a use on its way
 abbrev pub use_run : Phase → Use → Run (List (MaybeStatic ℕ))
@@ -34,11 +34,11 @@ use_run phase (Path is_self path (Some found)) = generics_run phase is_self path
 abbrev pub uses_run : {U : Type 0} → (U → Run (List (MaybeStatic ℕ))) → List U → Run NumberLists
 uses_run run us = in_order (map run us)
 
-pub assoc : {A B C : Type 0} (r : Result (A × Signature) NumberFault) (f : A → Run B) (g : B → Run C) → with_next (with_next r f) g ≡ with_next r (λ x. f x >> g)
+pub assoc : {A B C : Type 0} (r : Result (A × Signature) NumberFault) (f : A → Run B) (g : B → Run C) → run_next (run_next r f) g ≡ run_next r (λ x. f x >> g)
 assoc (Ok both) f g = refl
 assoc (Err e) f g = refl
 
-pub same_next : {A B : Type 0} (r : Result (A × Signature) NumberFault) (f g : A → Run B) → ((x : A) (s : Signature) → f x s ≡ g x s) → with_next r f ≡ with_next r g
+pub same_next : {A B : Type 0} (r : Result (A × Signature) NumberFault) (f g : A → Run B) → ((x : A) (s : Signature) → f x s ≡ g x s) → run_next r f ≡ run_next r g
 same_next (Ok both) f g h = h both.0 both.1
 same_next (Err e) f g h = refl
 
@@ -47,12 +47,12 @@ module _ {U : Type 0} (numbered : U → Run (List (MaybeStatic ℕ))) where
   pub uses_append : (us vs : List U) (s : Signature) → uses_run numbered (us ++ vs) s ≡ (uses_run numbered us >> (λ xs. uses_run numbered vs >> (λ ys. given (xs ++ ys)))) s
   uses_append [] vs s = unit (uses_run numbered vs s)
     where
-      unit : (r : Result (NumberLists × Signature) NumberFault) → r ≡ with_next r (λ ys. given ys)
+      unit : (r : Result (NumberLists × Signature) NumberFault) → r ≡ run_next r (λ ys. given ys)
       unit (Ok both) = refl
       unit (Err e) = refl
   uses_append (u ∷ us) vs s =
       same_next (numbered u s) _ _ (λ x t.
-      ap (λ r. with_next r (λ xs. given (x ∷ xs))) (uses_append us vs t)
+      ap (λ r. run_next r (λ xs. given (x ∷ xs))) (uses_append us vs t)
       ∙ assoc (uses_run numbered us t) (λ xs. uses_run numbered vs >> (λ ys. given (xs ++ ys))) (λ zs. given (x ∷ zs))
       ∙ same_next (uses_run numbered us t) _ _ (λ xs u. assoc (uses_run numbered vs u) (λ ys. given (xs ++ ys)) (λ zs. given (x ∷ zs)))
       ∙ sym (assoc (uses_run numbered us t) (λ xs. given (x ∷ xs)) (λ xs. uses_run numbered vs >> (λ ys. given (xs ++ ys)))))
@@ -75,10 +75,10 @@ module _ {U : Type 0} (numbered : U → Run (List (MaybeStatic ℕ))) where
       → FlatBy all (run >> (λ x. run' >> (λ y. given (make x y)))) (us ++ vs)
   flat_two of of' all run run' make us vs flat flat' h s =
       uses_append us vs s
-      ∙ ap (λ r. with_next r (λ xs. uses_run numbered vs >> (λ ys. given (xs ++ ys)))) (flat s)
+      ∙ ap (λ r. run_next r (λ xs. uses_run numbered vs >> (λ ys. given (xs ++ ys)))) (flat s)
       ∙ assoc (run s) (λ x. given (of x)) (λ xs. uses_run numbered vs >> (λ ys. given (xs ++ ys)))
       ∙ same_next (run s) _ _ (λ x t.
-      ap (λ r. with_next r (λ ys. given (of x ++ ys))) (flat' t)
+      ap (λ r. run_next r (λ ys. given (of x ++ ys))) (flat' t)
       ∙ assoc (run' t) (λ y. given (of' y)) (λ ys. given (of x ++ ys))
       ∙ same_next (run' t) _ _ (λ y u. ap (λ ns. Ok (ns, u)) (sym (h x y)))
       ∙ sym (assoc (run' t) (λ y. given (make x y)) (λ z. given (all z))))

@@ -86,9 +86,9 @@ without n [] = []
 without n (s ∷ slots) = if nat_eq s.0 n then (s.0, None) ∷ slots else s ∷ without n slots
 
 -- the number of the first key with that text
-abbrev pub number_of : List Key → List ℕ → Option ℕ
-number_of [] text = None
-number_of (k ∷ keys) text = if bytes_eq (key_text k) text then Some 0 else option_map (λ n. suc n) (number_of keys text)
+abbrev pub key_number : List Key → List ℕ → Option ℕ
+key_number [] text = None
+key_number (k ∷ keys) text = if bytes_eq (key_text k) text then Some 0 else option_map (λ n. suc n) (key_number keys text)
 
 -- a member that isn't null
 abbrev pub slot : ℕ → Option Data → Slots
@@ -102,4 +102,4 @@ or_unknown None text next = Err (within (step.Member text) (here kind.UnknownKey
 -- the members after these, up to the first whose key is none of the form
 abbrev pub numbered : List Key → Slots → Members → Result Slots Fault
 numbered keys slots no_members = Ok slots
-numbered keys slots (member text d ms) = or_unknown (number_of keys text) text (λ n. numbered keys (slots ++ slot n (not_null d)) ms)
+numbered keys slots (member text d ms) = or_unknown (key_number keys text) text (λ n. numbered keys (slots ++ slot n (not_null d)) ms)

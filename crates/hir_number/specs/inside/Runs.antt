@@ -85,13 +85,13 @@ IsTold part stands (Ok x) r = Comes (stands x) (part x) r
 IsTold part stands (Err e) r = RunTells e r
 
 -- what comes, without what then stands
-abbrev pub valued : {A : Type 0} → Result (A × Signature) NumberFault → Result A NumberFault
-valued (Ok both) = Ok both.0
-valued (Err e) = Err e
+abbrev pub run_value : {A : Type 0} → Result (A × Signature) NumberFault → Result A NumberFault
+run_value (Ok both) = Ok both.0
+run_value (Err e) = Err e
 
 -- of a signature that declares these lifetimes, from its beginning on
 abbrev pub whole_run : {A : Type 0} → LifetimeEnv → Run A → Result A NumberFault
-whole_run declared run = if nat_lt most (length declared.nodes) then Err (fault.Elide elide.TooManyLifetimes) else valued (run (begun declared))
+whole_run declared run = if nat_lt most (length declared.nodes) then Err (fault.Elide elide.TooManyLifetimes) else run_value (run (begun declared))
 
 -- a fault that a call tells which goes through a signature from its beginning on: want of memory, a declared name that is no
 -- identifier, or the fault of the run

@@ -26,14 +26,14 @@ use Rattle.hir_number.specs.Uses.{Path}
 abbrev pub Run : Type 0 → Type 0
 Run A = Signature → Result (A × Signature) NumberFault
 
-abbrev pub with_next : {A B : Type 0} → Result (A × Signature) NumberFault → (A → Run B) → Result (B × Signature) NumberFault
-with_next (Ok both) next = next both.0 both.1
-with_next (Err e) next = Err e
+abbrev pub run_next : {A B : Type 0} → Result (A × Signature) NumberFault → (A → Run B) → Result (B × Signature) NumberFault
+run_next (Ok both) next = next both.0 both.1
+run_next (Err e) next = Err e
 
 -- one part and then the next
 infixl 10 ◌>>◌
 abbrev pub ◌>>◌ : {A B : Type 0} → Run A → (A → Run B) → Run B
-(run >> next) s = with_next (run s) next
+(run >> next) s = run_next (run s) next
 
 abbrev pub given : {A : Type 0} → A → Run A
 given x s = Ok (x, s)
