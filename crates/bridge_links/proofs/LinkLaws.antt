@@ -4,7 +4,8 @@ use Rattle.std.specs.List.{flat_map}
 use Rattle.std.proofs.lemmas.List.{append_assoc, append-nil, length-append, take_more, flat_map_more, map_more}
 use Rattle.std.proofs.lemmas.Grind.{flat_map-append}
 use Rattle.hir_docs.specs.Urls.{BaseUrls}
-use Rattle.bridge_links.specs.LinkLines.{Lines, PlacedLink, link_line, with_link, with_links}
+use Rattle.bridge_links.specs.LinkLines.{Lines, PlacedLink, link_line, with_links}
+use Rattle.bridge_links.specs.inside.Pushing.{with_link}
 
 lines_alike : (old new : Lines) → new.text ≡ old.text → new.count ≡ old.count → new ≡ old
 lines_alike old new text count = λ i. record { text = text i; count = count i }

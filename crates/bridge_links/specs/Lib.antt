@@ -1,1 +1,2 @@
 pub mod LinkLines
+pub mod inside

@@ -85,10 +85,3 @@ with_links urls lines links = record { text = lines.text ++ flat_map (link_line 
 -- all lines, and last how many they are
 abbrev pub links_page : BaseUrls → List PlacedLink → List ℕ
 links_page urls links = flat_map (link_line urls) links ++ codes "links " ++ decimal (length links) ++ codes "\n"
-
--- lines with one more
-abbrev pub with_line : Lines → List ℕ → List ℕ → Lines
-with_line lines place url = record { text = lines.text ++ (place ++ codes " " ++ url ++ codes "\n"); count = lines.count + 1 }
-
-abbrev pub with_link : BaseUrls → Lines → PlacedLink → Lines
-with_link urls lines it = with_line lines it.place (link_or_dash (link_text urls it.link.typ it.link.path))

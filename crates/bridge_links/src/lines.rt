@@ -3,7 +3,8 @@
 ghost use Rattle.std.specs.Prelude.{◌≡◌, List, IfOk, OnOk, string_bytes};
 ghost use Rattle.std.specs.List.{flat_map};
 ghost use Rattle.std.specs.Option.{option_copied};
-ghost use Rattle.bridge_links.specs.LinkLines.{docs_links, link_or_dash, links_page, method_links, no_lines, printed_place, link_at, PlacedLink, trait_method_links, with_line, with_link, with_links};
+ghost use Rattle.bridge_links.specs.LinkLines.{docs_links, link_or_dash, links_page, method_links, no_lines, printed_place, link_at, PlacedLink, trait_method_links, with_links};
+ghost use Rattle.bridge_links.specs.inside.Pushing.{with_line, with_link};
 ghost use Rattle.hir_docs.specs.Urls.{BaseUrls};
 ghost use Rattle.hir_docs.specs.Links.{link_text};
 
@@ -97,7 +98,8 @@ impl LinkLines {
         place: &str,
         link: &RustLink,
     ) -> Result<(), NoMemory>
-        ensures { OnOk result (self.new ≡ with_link urls.now self.old (link_at place.now link.now)) }
+        ensures { OnOk result (self.new
+            ≡ with_link urls.now self.old (link_at place.now link.now)) }
     {
         let url = url_or_dash(alloc, urls, link)?;
         self.push_line(place, url.as_str())

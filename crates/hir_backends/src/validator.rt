@@ -85,7 +85,8 @@ impl AttributeValidator for BasicAttributeValidator {
     /// `supports` asks for what is no flag.
     fn is_name_value(&self, name: &str, value: &str) -> Option<bool>
         ensures value { result ≡ (basic_meaning self.now).is_name_value name.now value.now }
-        ensures none { (result ≡ None) ↔ ((name.now ≡ codes "supports") × (flag_named value.now ≡ None)) }
+        ensures none { (result ≡ None)
+            ↔ ((name.now ≡ codes "supports") × (flag_named value.now ≡ None)) }
     {
         if name == "supports" {
             self.supports(value)

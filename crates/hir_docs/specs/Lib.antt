@@ -1,3 +1,4 @@
 pub mod Docs
 pub mod Links
 pub mod Urls
+pub mod inside

@@ -38,11 +38,6 @@ layout kind.AssociatedConstantInStruct = Page (codes "struct.") (codes "#associa
 layout kind.AssociatedConstantInTrait = Page (codes "trait.") (codes "#associatedconstant." ∷ [])
 layout kind.EnumVariantField = Page (codes "enum.") (codes "#variant." ∷ codes ".field." ∷ [])
 
--- a layout as the code has it: the prefix and the texts, or none for an index
-abbrev pub shown : Option (Bor (List ℕ) × Bor (List (Bor (List ℕ)))) → Layout
-shown None = Index
-shown (Some page) = Page page.0.now (map (λ anchor. anchor.now) page.1.now)
-
 -- where documentation lies whose crate has no other place
 unfoldable pub docs_rs : List ℕ
 docs_rs = codes "https://docs.rs/"

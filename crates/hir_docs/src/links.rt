@@ -2,7 +2,8 @@
 
 ghost use Rattle.std.specs.Prelude.{◌≡◌, ◌++◌, ◌↔◌, IfOk, OnOk, IsErrOf, None, Some, false, length, map, string_bytes};
 ghost use Rattle.std.specs.Option.{option_copied};
-ghost use Rattle.hir_docs.specs.Links.{layout, shown, ends_with_slash, slashed, chosen_base, rooted, root_of, folder, folders, anchored, page_text, is_short, within_root, link_text};
+ghost use Rattle.hir_docs.specs.Links.{layout, ends_with_slash, slashed, chosen_base, rooted, root_of, folder, folders, anchored, page_text, is_short, within_root, link_text};
+ghost use Rattle.hir_docs.specs.inside.Shown.{shown};
 
 use crate::urls::DocsUrlGenerator;
 use bridge_decl::{DocType, NoMemory, RustLink, Text};
@@ -133,7 +134,8 @@ fn push_folders(text: &mut String, segments: &[Text]) -> Result<(), NoMemory>
 /// Adds the further names within a page, each after its text.
 fn push_anchored(text: &mut String, anchors: &[&str], names: &[Text]) -> Result<(), NoMemory>
     ensures { OnOk result (string_bytes text.new
-        ≡ string_bytes text.old ++ anchored (map (λ anchor. anchor.now) anchors.entry.now) names.now) }
+        ≡ string_bytes text.old
+        ++ anchored (map (λ anchor. anchor.now) anchors.entry.now) names.now) }
 {
     match anchors {
         [] => Ok(()),

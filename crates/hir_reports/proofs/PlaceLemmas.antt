@@ -3,7 +3,8 @@ use Rattle.std.proofs.Common.{◌≡◌, ℕ, ◌==◌, true, false, true≢fals
 use Rattle.std.specs.Prelude.{codes, is_some}
 use Rattle.std.proofs.lemmas.List.{append_assoc}
 use Rattle.bridge_decl.specs.Names.{joined}
-use Rattle.hir_reports.specs.Places.{module_opening, module_text, inner_text, named_segments, subitem_segments}
+use Rattle.hir_reports.specs.Places.{module_text, named_segments, subitem_segments}
+use Rattle.hir_reports.specs.inside.Openings.{module_opening, inner_text}
 
 -- a path with something in it
 within : (path : List (List ℕ)) (segment : List ℕ) (more : List (List ℕ))

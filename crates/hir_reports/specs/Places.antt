@@ -33,14 +33,3 @@ location_of item (Some subitem) = item ++ codes "::" ++ subitem
 
 abbrev pub location_text : ErrorContext → List ℕ
 location_text context = location_of context.item context.subitem
-
--- a module with `::` after it; the root has none
-abbrev pub module_opening : List (List ℕ) → List ℕ
-module_opening [] = []
-module_opening (segment ∷ segments) = joined (codes "::") (segment ∷ segments) ++ codes "::"
-
--- what stands in a module, as it is printed; the item is left out where it has no name
-abbrev pub inner_text : List ℕ → Option (List ℕ) → List ℕ
-inner_text [] None = []
-inner_text [] (Some subitem) = subitem
-inner_text (c ∷ cs) subitem = location_of (c ∷ cs) subitem

@@ -4,7 +4,8 @@ ghost use Rattle.std.specs.Prelude.{◌≡◌, ◌++◌, IfOk, Some, codes};
 ghost use Rattle.std.specs.Option.{option_copied};
 ghost use Rattle.std.specs.Fmt.{DisplaysOnOk};
 ghost use Rattle.bridge_decl.specs.Names.{joined};
-ghost use Rattle.hir_reports.specs.Places.{location_text, module_opening, module_text, inner_text, context_text};
+ghost use Rattle.hir_reports.specs.Places.{location_text, module_text, context_text};
+ghost use Rattle.hir_reports.specs.inside.Openings.{module_opening, inner_text};
 
 use bridge_decl::{Items, NoMemory, Text};
 use std::alloc::Global;
@@ -102,7 +103,8 @@ fn put_within<W: fmt::Write>(
     subitem: Option<&Text>,
 ) -> fmt::Result
     ensures { DisplaysOnOk W.write_str_gives f.old result
-        (Some (module_opening path.now ++ inner_text item.now (option_copied subitem.entry))) f.new }
+        (Some (module_opening path.now
+        ++ inner_text item.now (option_copied subitem.entry))) f.new }
 {
     put_opening(f, path)?;
     put_inner(f, item, subitem)

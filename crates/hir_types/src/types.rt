@@ -94,7 +94,8 @@ impl<P: TyPosition> HirType<P> {
 
     /// Whether it is an opaque or a struct behind `&`.
     pub fn is_immutably_borrowed(&self) -> bool
-        ensures { IsTrue result ↔ (borrowed_as P.OpaqueOwnership.borrow_of P.StructPath.held_of self.now
+        ensures { IsTrue result
+            ↔ (borrowed_as P.OpaqueOwnership.borrow_of P.StructPath.held_of self.now
             ≡ Some Mutability.Immutable) }
     {
         match self.borrowed_as() {
@@ -105,7 +106,8 @@ impl<P: TyPosition> HirType<P> {
 
     /// Whether it is an opaque or a struct behind `&mut`.
     pub fn is_mutably_borrowed(&self) -> bool
-        ensures { IsTrue result ↔ (borrowed_as P.OpaqueOwnership.borrow_of P.StructPath.held_of self.now
+        ensures { IsTrue result
+            ↔ (borrowed_as P.OpaqueOwnership.borrow_of P.StructPath.held_of self.now
             ≡ Some Mutability.Mutable) }
     {
         match self.borrowed_as() {
