@@ -1,0 +1,172 @@
+//! As many lifetimes as there may be, and one more: by names, by anonymous ones, and by both.
+
+use super::answers::{Call, asked_of};
+use super::declared::structure;
+use super::made::{field, function_of, method, param, struct_with, trait_method, trait_with};
+use super::rendered::put_number;
+use bridge_decl::{
+    Boxed, Item, Items, Lifetime, LifetimeEnv, LifetimeNode, Mutability, NoMemory, Param,
+    PrimitiveType, Text, TypeName,
+};
+use std::alloc::Global;
+use std::process::Abort;
+
+/// How names begin, how many are declared, how many parameters have an anonymous lifetime, and what the answer ends with.
+type Row = (&'static str, usize, usize, &'static str);
+
+/// Functions that return under the last name, if there is one.
+const FUNCTIONS: [Row; 9] = [
+    ("l", 4095, 0, "| &4094 u8 | 4095"),
+    ("l", 4096, 0, "TooManyLifetimes"),
+    ("l", 0, 4095, "&4094 u8 | | 4095"),
+    ("l", 0, 4096, "TooManyLifetimes"),
+    ("l", 4000, 95, "&4094 u8 | &3999 u8 | 4095"),
+    ("l", 4000, 96, "TooManyLifetimes"),
+    ("l", 4095, 1, "TooManyLifetimes"),
+    ("1", 4095, 0, "BadIdent"),
+    ("1", 4096, 0, "TooManyLifetimes"),
+];
+
+/// Methods of `S` by `&self`, which leaves out two lifetimes, that do so too.
+const METHODS: [Row; 5] = [
+    ("l", 4093, 0, "&4093 S<4094> | | &4092 u8 | 4095"),
+    ("l", 4094, 0, "TooManyLifetimes"),
+    ("l", 0, 4093, "&4094 u8 | | 4095"),
+    ("l", 0, 4094, "TooManyLifetimes"),
+    ("l", 2000, 2093, "&4094 u8 | &1999 u8 | 4095"),
+];
+
+/// Methods of the trait `R` by `&self`.
+const TRAIT_METHODS: [Row; 4] = [
+    ("l", 4093, 0, "&4093 R<4094> | | &4092 u8 | 4095"),
+    ("l", 4094, 0, "TooManyLifetimes"),
+    ("l", 0, 4093, "&4094 u8 | | 4095"),
+    ("l", 0, 4094, "TooManyLifetimes"),
+];
+
+/// Structs with one field under the last name.
+const FIELDS: [Row; 2] = [
+    ("l", 4095, 0, "&4094 u8"),
+    ("l", 4096, 0, "TooManyLifetimes"),
+];
+
+fn name(alloc: Global, start: &str, number: usize) -> Result<Text, NoMemory> {
+    let mut name = String::new(alloc);
+    name.push_str(start)?;
+    put_number(&mut name, number)?;
+    Text::new(alloc, name.as_str())
+}
+
+fn names(alloc: Global, start: &str, count: usize) -> Result<LifetimeEnv, NoMemory> {
+    let mut nodes = Items::new(alloc);
+    for number in 0..count {
+        nodes.push(LifetimeNode {
+            name: name(alloc, start, number)?,
+            longer: Items::new(alloc),
+            shorter: Items::new(alloc),
+        })?;
+    }
+    Ok(LifetimeEnv { nodes })
+}
+
+/// A reference to a `u8`.
+fn reference(alloc: Global, lifetime: Lifetime) -> Result<TypeName, NoMemory> {
+    let inner = Boxed::new(alloc, TypeName::Primitive(PrimitiveType::u8))?;
+    Ok(TypeName::Reference(lifetime, Mutability::Immutable, inner))
+}
+
+fn params(alloc: Global, count: usize) -> Result<Items<Param>, NoMemory> {
+    let mut params = Items::new(alloc);
+    for _ in 0..count {
+        let ty = reference(alloc, Lifetime::Anonymous)?;
+        params.push(param(alloc, ty)?)?;
+    }
+    Ok(params)
+}
+
+/// A reference under the last of the names, if there is one.
+fn last(alloc: Global, start: &str, count: usize) -> Result<Option<TypeName>, NoMemory> {
+    match count.checked_sub(1) {
+        Some(number) => {
+            let name = name(alloc, start, number)?;
+            Ok(Some(reference(alloc, Lifetime::Named(name))?))
+        }
+        None => Ok(None),
+    }
+}
+
+fn function(alloc: Global, row: &Row) -> Result<Item, NoMemory> {
+    let lifetimes = names(alloc, row.0, row.1)?;
+    let params = params(alloc, row.2)?;
+    let output = last(alloc, row.0, row.1)?;
+    function_of(alloc, lifetimes, params, output)
+}
+
+fn with_method(alloc: Global, row: &Row) -> Result<Item, NoMemory> {
+    let mut method = method(alloc, " | S | & | | ")?;
+    method.lifetime_env = names(alloc, row.0, row.1)?;
+    method.params = params(alloc, row.2)?;
+    method.return_type = last(alloc, row.0, row.1)?;
+    struct_with(alloc, method)
+}
+
+fn with_trait_method(alloc: Global, row: &Row) -> Result<Item, NoMemory> {
+    let mut method = trait_method(alloc, " | R | & | | ")?;
+    method.lifetimes = names(alloc, row.0, row.1)?;
+    method.params = params(alloc, row.2)?;
+    method.output_type = last(alloc, row.0, row.1)?;
+    trait_with(alloc, method)
+}
+
+fn with_field(alloc: Global, row: &Row) -> Result<Item, NoMemory> {
+    let lifetimes = names(alloc, row.0, row.1)?;
+    let mut fields = Items::new(alloc);
+    match last(alloc, row.0, row.1)? {
+        Some(ty) => fields.push(field(alloc, ty)?)?,
+        None => {}
+    }
+    structure(alloc, "S", lifetimes, fields, Items::new(alloc), false)
+}
+
+/// The item that a row declares for the call.
+fn declared(alloc: Global, call: Call, row: &Row) -> Result<Item, NoMemory> {
+    match call {
+        Call::NumberMethod => with_method(alloc, row),
+        Call::NumberTraitMethod => with_trait_method(alloc, row),
+        Call::NumberFields => with_field(alloc, row),
+        _ => function(alloc, row),
+    }
+}
+
+fn compare(rt: &impl Abort, alloc: Global, call: Call, rows: &[Row]) -> Result<(), NoMemory> {
+    for row in rows {
+        let answer = asked_of(alloc, call, declared(alloc, call, row)?)?;
+        assert!(rt;
+            answer.as_str().ends_with(row.3),
+            "of {} and {}",
+            row.1,
+            row.2
+        );
+    }
+    Ok(())
+}
+
+#[test]
+fn functions(rt: HostRuntime) -> Result<(), NoMemory> {
+    compare(&rt, rt.alloc(), Call::NumberFunction, &FUNCTIONS)
+}
+
+#[test]
+fn methods(rt: HostRuntime) -> Result<(), NoMemory> {
+    compare(&rt, rt.alloc(), Call::NumberMethod, &METHODS)
+}
+
+#[test]
+fn trait_methods(rt: HostRuntime) -> Result<(), NoMemory> {
+    compare(&rt, rt.alloc(), Call::NumberTraitMethod, &TRAIT_METHODS)
+}
+
+#[test]
+fn fields(rt: HostRuntime) -> Result<(), NoMemory> {
+    compare(&rt, rt.alloc(), Call::NumberFields, &FIELDS)
+}

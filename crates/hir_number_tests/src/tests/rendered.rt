@@ -1,0 +1,393 @@
+//! What is answered, in the notation of the rows: numbers stand for lifetimes, `s` for `'static`.
+
+use bridge_ast::ItemPlace;
+use bridge_decl::{Boxed, Items, Mutability, NoMemory, Text};
+use hir_elide::ElideFault;
+use hir_life::{Lifetime, Lifetimes, MaybeStatic};
+use hir_number::{
+    Breach, Kind, NumberFault, NumberedSignature, NumberedTraitMethod, NumberedType, Target,
+    TraitTarget,
+};
+use std::alloc::Global;
+
+fn digit(number: usize) -> &'static str {
+    match number % 10 {
+        0 => "0",
+        1 => "1",
+        2 => "2",
+        3 => "3",
+        4 => "4",
+        5 => "5",
+        6 => "6",
+        7 => "7",
+        8 => "8",
+        _ => "9",
+    }
+}
+
+/// A number below ten thousand.
+pub fn put_number(text: &mut String, number: usize) -> Result<(), NoMemory> {
+    if number >= 1000 {
+        text.push_str(digit(number / 1000))?;
+    }
+    if number >= 100 {
+        text.push_str(digit(number / 100))?;
+    }
+    if number >= 10 {
+        text.push_str(digit(number / 10))?;
+    }
+    text.push_str(digit(number))
+}
+
+fn put_lifetime(text: &mut String, lifetime: &MaybeStatic<Lifetime>) -> Result<(), NoMemory> {
+    match lifetime {
+        MaybeStatic::Static => text.push_str("s"),
+        MaybeStatic::NonStatic(lifetime) => put_number(text, lifetime.index()),
+    }
+}
+
+fn put_generics(text: &mut String, lifetimes: &Lifetimes) -> Result<(), NoMemory> {
+    let mut before = "<";
+    for lifetime in lifetimes.as_slice() {
+        text.push_str(before)?;
+        put_lifetime(text, lifetime)?;
+        before = ",";
+    }
+    if lifetimes.len() > 0 {
+        text.push_str(">")?;
+    }
+    Ok(())
+}
+
+/// The name of the item, which has that kind.
+fn name_of(place: ItemPlace, kind: Kind) -> &'static str {
+    match (place.item, kind) {
+        (0, Kind::Opaque(Mutability::Immutable)) => "O",
+        (1, Kind::Opaque(Mutability::Mutable)) => "A",
+        (2, Kind::Struct) => "B",
+        (3, Kind::OutStruct) => "X",
+        (4, Kind::Enum) => "E",
+        (6, Kind::Struct) => "S",
+        _ => "?",
+    }
+}
+
+fn put_target(text: &mut String, target: &Target) -> Result<(), NoMemory> {
+    text.push_str(name_of(target.place, target.kind))?;
+    put_generics(text, &target.lifetimes)
+}
+
+fn put_trait(text: &mut String, target: &TraitTarget) -> Result<(), NoMemory> {
+    text.push_str(match target.place.item {
+        5 => "T",
+        6 => "R",
+        _ => "?",
+    })?;
+    put_generics(text, &target.lifetimes)
+}
+
+fn put_borrow(
+    text: &mut String,
+    lifetime: &MaybeStatic<Lifetime>,
+    mutability: Mutability,
+) -> Result<(), NoMemory> {
+    text.push_str("&")?;
+    if mutability.is_mutable() {
+        text.push_str("mut")?;
+    }
+    put_lifetime(text, lifetime)?;
+    text.push_str(" ")
+}
+
+fn put_slice(
+    text: &mut String,
+    borrow: &Option<(MaybeStatic<Lifetime>, Mutability)>,
+) -> Result<(), NoMemory> {
+    text.push_str("[]")?;
+    match borrow {
+        Some((lifetime, mutability)) => put_borrow(text, lifetime, *mutability),
+        None => text.push_str(" "),
+    }
+}
+
+fn put_str(text: &mut String, lifetime: &Option<MaybeStatic<Lifetime>>) -> Result<(), NoMemory> {
+    match lifetime {
+        Some(lifetime) => put_borrow(text, lifetime, Mutability::Immutable)?,
+        None => {}
+    }
+    text.push_str("str")
+}
+
+fn function_word(parameters: usize) -> &'static str {
+    match parameters {
+        0 => "Fn0 ",
+        1 => "Fn1 ",
+        _ => "Fn2 ",
+    }
+}
+
+/// A type, each word before those that it takes.
+#[cycle(puts)]
+fn put_type(text: &mut String, ty: &NumberedType) -> Result<(), NoMemory> {
+    match ty {
+        NumberedType::Primitive(_) => text.push_str("u8"),
+        NumberedType::Ordering => text.push_str("Ordering"),
+        NumberedType::Named(target) => put_target(text, target),
+        NumberedType::SelfType(target) => {
+            text.push_str("Self:")?;
+            put_target(text, target)
+        }
+        NumberedType::ImplTrait(target) => {
+            text.push_str("impl:")?;
+            put_trait(text, target)
+        }
+        NumberedType::Reference(lifetime, mutability, inner) => {
+            put_borrow(text, lifetime, *mutability)?;
+            put_boxed(text, inner)
+        }
+        NumberedType::Box(inner) => {
+            text.push_str("Box ")?;
+            put_boxed(text, inner)
+        }
+        NumberedType::Option(inner, _) => {
+            text.push_str("Option ")?;
+            put_boxed(text, inner)
+        }
+        NumberedType::Result(ok, err, _) => {
+            text.push_str("Result ")?;
+            put_boxed(text, ok)?;
+            text.push_str(" ")?;
+            put_boxed(text, err)
+        }
+        NumberedType::Write(_) => text.push_str("Write"),
+        NumberedType::StrReference(lifetime, _, _) => put_str(text, lifetime),
+        NumberedType::StrSlice(_, _) => text.push_str("[] str"),
+        NumberedType::PrimitiveSlice(borrow, _, _) => {
+            put_slice(text, borrow)?;
+            text.push_str("u8")
+        }
+        NumberedType::CustomTypeSlice(borrow, element, _) => {
+            put_slice(text, borrow)?;
+            put_boxed(text, element)
+        }
+        NumberedType::Function(inputs, output, _) => {
+            text.push_str(function_word(inputs.len()))?;
+            put_each(text, inputs)?;
+            put_boxed(text, output)
+        }
+        NumberedType::Unit => text.push_str("()"),
+    }
+}
+
+#[cycle(puts)]
+fn put_boxed(text: &mut String, ty: &Boxed<NumberedType>) -> Result<(), NoMemory> {
+    put_type(text, ty.get())
+}
+
+/// The parameters of a callback.
+#[cycle(puts)]
+fn put_each(text: &mut String, types: &Items<NumberedType>) -> Result<(), NoMemory> {
+    for ty in types.as_slice() {
+        put_type(text, ty)?;
+        text.push_str(" ")?;
+    }
+    Ok(())
+}
+
+/// Types, with semicolons between them.
+fn put_types(text: &mut String, types: &Items<NumberedType>) -> Result<(), NoMemory> {
+    let mut before = "";
+    for ty in types.as_slice() {
+        text.push_str(before)?;
+        put_type(text, ty)?;
+        before = "; ";
+    }
+    Ok(())
+}
+
+/// The column of the parameters.
+fn put_params(text: &mut String, types: &Items<NumberedType>) -> Result<(), NoMemory> {
+    put_types(text, types)?;
+    if types.len() > 0 {
+        text.push_str(" ")?;
+    }
+    text.push_str("| ")
+}
+
+fn put_output(text: &mut String, output: &Option<NumberedType>) -> Result<(), NoMemory> {
+    match output {
+        Some(ty) => {
+            put_type(text, ty)?;
+            text.push_str(" | ")
+        }
+        None => text.push_str("| "),
+    }
+}
+
+fn put_self_borrow(
+    text: &mut String,
+    borrow: &Option<(MaybeStatic<Lifetime>, Mutability)>,
+) -> Result<(), NoMemory> {
+    match borrow {
+        Some((lifetime, mutability)) => put_borrow(text, lifetime, *mutability),
+        None => Ok(()),
+    }
+}
+
+/// The receiver of a method.
+fn put_receiver(text: &mut String, signature: &NumberedSignature) -> Result<(), NoMemory> {
+    put_self_borrow(text, &signature.borrow)?;
+    match &signature.own {
+        Some(own) => {
+            put_target(text, own)?;
+            text.push_str(" | ")
+        }
+        None => text.push_str("| "),
+    }
+}
+
+/// The receiver of a trait's method.
+fn put_trait_receiver(text: &mut String, method: &NumberedTraitMethod) -> Result<(), NoMemory> {
+    put_self_borrow(text, &method.borrow)?;
+    match &method.own {
+        Some(own) => {
+            put_trait(text, own)?;
+            text.push_str(" | ")
+        }
+        None => text.push_str("| "),
+    }
+}
+
+/// The parameters, the return and the count of lifetimes.
+fn put_signature(text: &mut String, signature: &NumberedSignature) -> Result<(), NoMemory> {
+    put_params(text, &signature.params)?;
+    put_output(text, &signature.output)?;
+    put_number(text, signature.lifetimes.num_lifetimes())
+}
+
+/// The same of a trait's method.
+fn put_trait_method(text: &mut String, method: &NumberedTraitMethod) -> Result<(), NoMemory> {
+    put_params(text, &method.params)?;
+    put_output(text, &method.output)?;
+    put_number(text, method.lifetimes.num_lifetimes())
+}
+
+fn elide_word(fault: ElideFault) -> &'static str {
+    match fault {
+        ElideFault::LifetimeUnknown => "LifetimeUnknown",
+        ElideFault::AnonymousInDefinition => "AnonymousInDefinition",
+        ElideFault::ElisionNoSource => "ElisionNoSource",
+        ElideFault::ElisionAmbiguous => "ElisionAmbiguous",
+        ElideFault::TooManyLifetimes => "TooManyLifetimes",
+        ElideFault::BadIdent => "BadIdent",
+        ElideFault::NoMemory => "NoMemory",
+    }
+}
+
+fn fault_word(fault: NumberFault) -> &'static str {
+    match fault {
+        NumberFault::UnresolvedPath => "UnresolvedPath",
+        NumberFault::LifetimeArity => "LifetimeArity",
+        NumberFault::Elide(fault) => elide_word(fault),
+        NumberFault::NoMemory => "NoMemory",
+    }
+}
+
+fn put_method(text: &mut String, method: &NumberedSignature) -> Result<(), NoMemory> {
+    put_receiver(text, method)?;
+    put_signature(text, method)
+}
+
+/// A numbered method, or the fault.
+pub fn method(
+    alloc: Global,
+    answer: Result<NumberedSignature, NumberFault>,
+) -> Result<String, NoMemory> {
+    let mut text = String::new(alloc);
+    match answer {
+        Ok(method) => put_method(&mut text, &method)?,
+        Err(fault) => text.push_str(fault_word(fault))?,
+    }
+    Ok(text)
+}
+
+/// A numbered function, or the fault.
+pub fn function(
+    alloc: Global,
+    answer: Result<NumberedSignature, NumberFault>,
+) -> Result<String, NoMemory> {
+    let mut text = String::new(alloc);
+    match answer {
+        Ok(function) => put_signature(&mut text, &function)?,
+        Err(fault) => text.push_str(fault_word(fault))?,
+    }
+    Ok(text)
+}
+
+fn put_whole_trait_method(text: &mut String, method: &NumberedTraitMethod) -> Result<(), NoMemory> {
+    put_trait_receiver(text, method)?;
+    put_trait_method(text, method)
+}
+
+/// A numbered method of a trait, or the fault.
+pub fn trait_method(
+    alloc: Global,
+    answer: Result<NumberedTraitMethod, NumberFault>,
+) -> Result<String, NoMemory> {
+    let mut text = String::new(alloc);
+    match answer {
+        Ok(method) => put_whole_trait_method(&mut text, &method)?,
+        Err(fault) => text.push_str(fault_word(fault))?,
+    }
+    Ok(text)
+}
+
+/// Numbered fields, or the fault.
+pub fn fields(
+    alloc: Global,
+    answer: Result<Items<NumberedType>, NumberFault>,
+) -> Result<String, NoMemory> {
+    let mut text = String::new(alloc);
+    match answer {
+        Ok(types) => put_types(&mut text, &types)?,
+        Err(fault) => text.push_str(fault_word(fault))?,
+    }
+    Ok(text)
+}
+
+fn put_segments(text: &mut String, segments: &[Text]) -> Result<(), NoMemory> {
+    for segment in segments {
+        text.push_str(segment.as_str())?;
+    }
+    Ok(())
+}
+
+fn put_breach(text: &mut String, breach: &Breach<'_>) -> Result<(), NoMemory> {
+    match *breach {
+        Breach::UnresolvedPath(path) => {
+            text.push_str("UnresolvedPath ")?;
+            put_segments(text, path.segments.as_slice())
+        }
+        Breach::LifetimeArity(path) => {
+            text.push_str("LifetimeArity ")?;
+            put_segments(text, path.segments.as_slice())
+        }
+        Breach::SelfMismatch => text.push_str("SelfMismatch"),
+        Breach::LifetimeUnknown(name) => {
+            text.push_str("LifetimeUnknown ")?;
+            text.push_str(name.as_str())
+        }
+    }
+}
+
+/// All that is wrong, with semicolons between each two.
+pub fn breaches(alloc: Global, breaches: &[Breach<'_>]) -> Result<String, NoMemory> {
+    let mut text = String::new(alloc);
+    for breach in breaches {
+        if !text.is_empty() {
+            text.push_str("; ")?;
+        }
+        put_breach(&mut text, breach)?;
+    }
+    Ok(text)
+}
