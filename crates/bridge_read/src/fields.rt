@@ -6,7 +6,7 @@ ghost use Rattle.std.specs.List.Sorted.{IsStrictlySortedBy};
 ghost use Rattle.serde_json.specs.Data.{Data};
 ghost use Rattle.serde_json.specs.View.{view, members_view};
 ghost use Rattle.bridge_read.specs.declared.keys.Key.{Key as Name};
-ghost use Rattle.bridge_read.specs.Form.{add_live, live, sole};
+ghost use Rattle.bridge_read.specs.Form.{live, sole};
 ghost use Rattle.bridge_read.specs.Reading.{flag_of, held_of, list_of, needed_of, not_null, optional_of, under};
 ghost use Rattle.bridge_read.specs.inside.Given.{Gives, GivesBy, held, needed, optional, some_of};
 ghost use Rattle.bridge_read.specs.inside.Left.{Finds, IsLeft, Opens, Takes, all_seen, are_apart, found_list, held_at, live_from, key_number, numbered, place_of, seen, slot, without};
@@ -30,6 +30,7 @@ pub struct Field {
 
 impl Field {
     /// What stands under the key, which is required.
+    #[inline(always)]
     fn needed<T: FromForm>(self, alloc: Global) -> Result<T, ReadFault>
         ensures { Gives result (needed_of T.form self.key (option_map view self.value)) }
     {
@@ -41,6 +42,7 @@ impl Field {
     }
 
     /// What stands under the key, if anything does.
+    #[inline(always)]
     fn optional<T: FromForm>(self, alloc: Global) -> Result<Option<T>, ReadFault>
         ensures { Gives result (optional_of T.form self.key (option_map view self.value)) }
     {
@@ -52,6 +54,7 @@ impl Field {
     }
 
     /// What stands under the key, or what its absence stands for.
+    #[inline(always)]
     fn held<T: FromForm>(self, alloc: Global, absent: T) -> Result<T, ReadFault>
         ensures { Gives result (held_of absent T.form self.key (option_map view self.value)) }
     {
@@ -179,19 +182,18 @@ impl<'k> Fields<'k> {
     }
 }
 
-/// What was found under earlier keys and under this one; the wrong form where both have something.
+/// What was found under this key; the wrong form where something was found under an earlier one.
 fn found_with(
     alloc: Global,
     found: Option<(Key, Value)>,
     key: Key,
-    value: Option<Value>,
+    value: Value,
 ) -> Result<Option<(Key, Value)>, ReadFault>
-    ensures { Finds result (found_list found ++ add_live key (option_map view value) []) }
+    ensures { Finds result (found_list found ++ (key, view value) ∷ []) }
 {
-    match (found, value) {
-        (found, None) => Ok(found),
-        (None, Some(value)) => Ok(Some((key, value))),
-        (Some(_), Some(_)) => Err(ReadFault::wrong_form(alloc)),
+    match found {
+        None => Ok(Some((key, value))),
+        Some(_) => Err(ReadFault::wrong_form(alloc)),
     }
 }
 
@@ -207,10 +209,11 @@ fn sole_from(
 {
     let mut found = None;
     for number in read..form.len() {
-        let value = take(&mut members, number);
-        match found_with(alloc, found, form[number], value) {
-            Ok(more) => found = more,
-            Err(fault) => return Err(fault),
+        if let Some(value) = take(&mut members, number) {
+            match found_with(alloc, found, form[number], value) {
+                Ok(more) => found = more,
+                Err(fault) => return Err(fault),
+            }
         }
     }
     match found {
@@ -285,14 +288,14 @@ fn add(members: &mut Vec<Member>, number: usize, value: Value) -> Result<(), NoM
 fn number_all(
     alloc: Global,
     form: &[Key],
-    members: Map<String, Value>,
+    mut members: Map<String, Value>,
 ) -> Result<Vec<Member>, ReadFault>
     ensures numbered { GivesBy (λ found. all_seen found.items) result
         (numbered form.now [] (members_view members.entries)) }
     ensures ordered { IsStrictlySortedBy string_cmp (keys members) }
 {
     let mut found = Vec::with_capacity(alloc, members.len())?;
-    for (name, value) in members {
+    while let Some((name, value)) = members.pop_first() {
         match key_number(form, name.as_str()) {
             Some(number) => add(&mut found, number, value)?,
             None => return Err(ReadFault::Bad(Fault::unknown_key(alloc, name.as_str())?)),

@@ -91,6 +91,8 @@ pub enum Key {
 #[tactic(auto, unfolding(crate::specs::Keys::key_text))]
 impl Key {
     /// The key as it is written.
+    // In line it is a look-up in a table, which a call for each comparison of keys would cost more than.
+    #[inline(always)]
     pub fn text(self) -> &'static str
         ensures { result.now ≡ key_text self }
     {

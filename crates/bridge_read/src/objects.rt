@@ -27,6 +27,7 @@ pub fn under(value: &Value, key: Key) -> Option<&Value>
 }
 
 /// What was read of the value under a key of that name, or its fault as one of the object.
+#[inline(always)]
 pub fn in_member_named<T: Drop>(
     alloc: Global,
     name: &str,
@@ -46,6 +47,7 @@ pub fn in_member_named<T: Drop>(
 }
 
 /// What was read of the value under a key, or its fault as one of the object.
+#[inline(always)]
 pub fn in_member<T: Drop>(
     alloc: Global,
     key: Key,
@@ -57,6 +59,7 @@ pub fn in_member<T: Drop>(
 }
 
 /// What was read of an entry of a list, or its fault as one of the list.
+#[inline(always)]
 pub fn in_entry<T: Drop>(number: usize, read: Result<T, ReadFault>) -> Result<T, ReadFault>
     ensures { (was : Result T Wrong) → Gives read was
         → Gives result (inside (step.Index number) was) }
