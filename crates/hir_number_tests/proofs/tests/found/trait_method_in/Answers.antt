@@ -1,5 +1,4 @@
 use Rattle.std.proofs.Common.{subst}
-use Rattle.std.specs.List.{All}
 use Rattle.std.proofs.lemmas.List.Elements.{All-tail}
 use Rattle.bridge_decl.specs.Lifetimes.{IsSoundEnvironment}
 use Rattle.bridge_ast.specs.Sound.{HasSoundLifetimes}
