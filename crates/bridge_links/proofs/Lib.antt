@@ -1,1 +1,1 @@
-mod LinkLaws
+pub mod LinkLaws

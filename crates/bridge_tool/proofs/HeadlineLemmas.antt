@@ -8,15 +8,20 @@ use Rattle.bridge_read.proofs.InputLaws.{spelled_once}
 use Rattle.bridge_outside.specs.Outside.{SourceState}
 use Rattle.bridge_tool.specs.declared.status.Status.{Status}
 use Rattle.bridge_tool.specs.declared.status.Status.TheVariants as status
-use Rattle.bridge_tool.specs.Breaks.{BreakNothing}
+use Rattle.bridge_check.specs.Breaks.{BreakNothing}
 use Rattle.bridge_tool.specs.Built.{AreBuilt}
-use Rattle.bridge_tool.specs.Declining.{IsDeclinedBy}
-use Rattle.bridge_tool.specs.Headline.{AnswersDeclarations, Headline, IsComplete, IsUndisturbed, Settles}
-use Rattle.bridge_tool.specs.Lines.{Reported, AreRefusedBy}
-use Rattle.bridge_tool.specs.Page.{IsPage}
-use Rattle.bridge_tool.specs.Running.{World, Says, Spells, WereRead}
+use Rattle.bridge_tool.specs.Declining.{AreFaulty, IsDeclinedBy}
+use Rattle.bridge_tool.specs.Headline.{AnswersDeclarations, Headline, IsComplete, IsUndisturbed, Settles, SettlesCheck, SettlesLinks}
+use Rattle.bridge_check.specs.Refused.{AreRefusedBy}
+use Rattle.hir_reports.specs.declared.report.LoweringReport.{LoweringReport}
+use Rattle.bridge_check.specs.Page.{IsPage}
+use Rattle.bridge_read.specs.Inputs.{SpellsInput}
+use Rattle.bridge_tool.specs.Commands.{AskFor}
+use Rattle.bridge_tool.specs.Running.{World, Asked, IsAnswered, Says, Spells, WereRead}
+use Rattle.bridge_tool.specs.declared.command.Command.{Command}
+use Rattle.bridge_tool.specs.declared.command.Command.TheVariants.{Check, Links}
 use Rattle.bridge_tool.specs.Statuses.{code_of}
-use Rattle.bridge_tool.proofs.JudgeLemmas.{contains_first}
+use Rattle.bridge_check.proofs.TestLemmas.{contains_first}
 
 -- what holds of what is told
 if_told : {A : Type 0} (P : A → Type 0) {left : Option A} {had : A} → IfSome left P → left ≡ Some had → P had
@@ -40,9 +45,9 @@ spelled_one bytes modules others one other =
     one.is ∙ ap (λ (i : Input). i.env) (spelled_once bytes one.input other.input one.spelled other.spelled) ∙ sym other.is
 
 -- what is refused breaks a rule
-refused_breaks : (modules : List Module) (reports : List Reported) → AreRefusedBy modules reports → ¬ (BreakNothing modules)
+refused_breaks : (modules : List Module) (reports : List LoweringReport) → AreRefusedBy modules reports → ¬ (BreakNothing modules)
 refused_breaks modules [] refused = absurd (let few = refused.some in omega arith)
-refused_breaks modules (report ∷ reports) refused = λ keep. keep report.rule report.place report.args (refused.each report (contains_first report reports))
+refused_breaks modules (report ∷ reports) refused = λ keep. keep report.error.rule report.context report.error.args (refused.each report (contains_first report reports))
 
 -- bytes that are declined spell no declarations
 declined_spells_nothing : (bytes line : List ℕ) → IsDeclinedBy bytes line → (modules : List Module) → ¬ (Spells bytes modules)
@@ -50,44 +55,57 @@ declined_spells_nothing bytes line (inl faulty) modules = λ spells. faulty.faul
 declined_spells_nothing bytes line (inr unbuilt) modules = λ spells.
     unbuilt.unbuilt (subst AreBuilt (spells.is ∙ ap (λ (i : Input). i.env) (spelled_once bytes spells.input unbuilt.input spells.spelled unbuilt.spelled)) spells.built)
 
+-- words ask for one command
+same_command : (words : List (String Global)) (one other : Command) → AskFor words one → AskFor words other → one ≡ other
+same_command words one other asks_one asks_other = let e : Some one ≡ Some other = sym asks_one ∙ asks_other in cc
+
+-- so what is answered is that
+answered_as : (words : List (String Global)) (old new : World) (asked : Command) (end : Status) → Asked words (λ command. IsAnswered command old new end)
+    → AskFor words asked → IsAnswered asked old new end
+answered_as words old new asked end r asks =
+    subst (λ (command : Command). IsAnswered command old new end) (same_command words r.0 asked r.1 asks) r.2
+
 -- the headline, for each status but that of want of memory
 answers_end : (words : List (String Global)) (old new : World) (had : List ℕ) (modules : List Module) (end : Status) → Says words old new end
-    → IsUndisturbed words old new had → length had ≤ 2 ^ 26 → Spells had modules → code_of end ≢ 5 → AnswersDeclarations modules old new (code_of end)
+    → IsUndisturbed words Check old new had → length had ≤ 2 ^ 26 → Spells had modules → code_of end ≢ 5 → AnswersDeclarations modules old new (code_of end)
 answers_end words old new had modules status.Accepted r told short spells memory =
-    let read = r.1.1 in let text = r.1.2.0 in let answer = r.1.2.1 in
+    let answered = answered_as words old new Check status.Accepted r told.command in
+    let read = answered.1 in let text = answered.2.0 in let answer = answered.2.1 in
     let same : answer.0 ≡ modules = spelled_one had answer.0 modules (spells_told answer.0 read told.told answer.1) spells in
     let keeps : BreakNothing modules = subst BreakNothing same answer.2 in
     record {
       accepts = (λ e. keeps, λ k. refl);
-      page = λ e. (text, subst (λ m. IsPage m text) same answer.3, r.1.2.2.taken);
+      page = λ e. (text, subst (λ m. IsPage m text) same answer.3, answered.2.2.taken);
       refuses = λ n. absurd (n refl);
       reports = λ e. absurd (omega arith);
       none_left = if_told (λ all. new.source.left ≡ Some []) read.none_left told.told;
     }
 answers_end words old new had modules status.Refused r told short spells memory =
-    let read = r.1.1 in let text = r.1.2.0 in let answer = r.1.2.1 in
+    let answered = answered_as words old new Check status.Refused r told.command in
+    let read = answered.1 in let text = answered.2.0 in let answer = answered.2.1 in
     let same : answer.0 ≡ modules = spelled_one had answer.0 modules (spells_told answer.0 read told.told answer.2) spells in
     let refused : AreRefusedBy modules answer.1 = subst (λ m. AreRefusedBy m answer.1) same answer.3 in
     record {
       accepts = (λ e. absurd (omega arith), λ keep. absurd (refused_breaks modules answer.1 refused keep));
       page = λ e. absurd (omega arith);
       refuses = λ n. refl;
-      reports = λ e. (answer.1, refused, rw (sym answer.4) r.1.2.2.taken);
+      reports = λ e. (answer.1, refused, rw (sym answer.4) answered.2.2.taken);
       none_left = if_told (λ all. new.source.left ≡ Some []) read.none_left told.told;
     }
 answers_end words old new had modules status.NotDeclarations r told short spells memory =
-    absurd (declined_spells_nothing had r.1.2.0 (subst (λ b. IsDeclinedBy b r.1.2.0) (read_told r.1.1 told.told) r.1.2.1) modules spells)
+    let answered = answered_as words old new Check status.NotDeclarations r told.command in
+    absurd (declined_spells_nothing had answered.2.0 (subst (λ b. IsDeclinedBy b answered.2.0) (read_told answered.1 told.told) answered.2.1) modules spells)
 answers_end words old new had modules status.ReadFailed r told short spells memory = absurd (told.no_read_failed r.1)
-answers_end words old new had modules status.WriteFailed r told short spells memory = absurd (told.no_write_failed r.1)
+answers_end words old new had modules status.WriteFailed r told short spells memory = absurd (told.no_write_failed r.2.0)
 answers_end words old new had modules status.NoMemory r told short spells memory = absurd (memory refl)
-answers_end words old new had modules status.BadWords r told short spells memory = absurd (r.0 told.command)
+answers_end words old new had modules status.BadWords r told short spells memory = absurd (r.0 (Check, told.command))
 answers_end words old new had modules status.TooLong r told short spells memory = absurd (let long = if_told (λ all. 2 ^ 26 < length all) r.1.long told.told in omega arith)
 
 pub headline_of : (words : List (String Global)) (old new : World) (end : Status) → Says words old new end → Headline words old new (code_of end)
 headline_of words old new end says = λ had modules told short spells memory. answers_end words old new had modules end says told short spells memory
 
 -- bytes that spell declarations settle the status by whether these break a rule
-keeping_settles : (had : List ℕ) (modules : List Module) → length had ≤ 2 ^ 26 → Spells had modules → BreakNothing modules → Settles had 0
+keeping_settles : (had : List ℕ) (modules : List Module) → length had ≤ 2 ^ 26 → Spells had modules → BreakNothing modules → SettlesCheck had 0
 keeping_settles had modules short spells keeps = record {
   accepted = (λ e. (short, (modules, spells, keeps)), λ row. refl);
   refused = (λ e. absurd (omega arith), λ row. absurd (row.1.2 (subst BreakNothing (spelled_one had modules row.1.0 spells row.1.1) keeps)));
@@ -95,7 +113,7 @@ keeping_settles had modules short spells keeps = record {
   too_long = (λ e. absurd (omega arith), λ long. absurd (omega arith));
 }
 
-breaking_settles : (had : List ℕ) (modules : List Module) → length had ≤ 2 ^ 26 → Spells had modules → ¬ (BreakNothing modules) → Settles had 1
+breaking_settles : (had : List ℕ) (modules : List Module) → length had ≤ 2 ^ 26 → Spells had modules → ¬ (BreakNothing modules) → SettlesCheck had 1
 breaking_settles had modules short spells breaks = record {
   accepted = (λ e. absurd (omega arith), λ row. absurd (breaks (subst BreakNothing (spelled_one had row.1.0 modules row.1.1 spells) row.1.2)));
   refused = (λ e. (short, (modules, spells, breaks)), λ row. refl);
@@ -104,7 +122,7 @@ breaking_settles had modules short spells breaks = record {
 }
 
 -- bytes that spell none, or are too long, settle it too
-spelling_none_settles : (had : List ℕ) → length had ≤ 2 ^ 26 → ((modules : List Module) → ¬ (Spells had modules)) → Settles had 2
+spelling_none_settles : (had : List ℕ) → length had ≤ 2 ^ 26 → ((modules : List Module) → ¬ (Spells had modules)) → SettlesCheck had 2
 spelling_none_settles had short none = record {
   accepted = (λ e. absurd (omega arith), λ row. absurd (none row.1.0 row.1.1));
   refused = (λ e. absurd (omega arith), λ row. absurd (none row.1.0 row.1.1));
@@ -112,7 +130,7 @@ spelling_none_settles had short none = record {
   too_long = (λ e. absurd (omega arith), λ long. absurd (omega arith));
 }
 
-long_settles : (had : List ℕ) → 2 ^ 26 < length had → Settles had 7
+long_settles : (had : List ℕ) → 2 ^ 26 < length had → SettlesCheck had 7
 long_settles had long = record {
   accepted = (λ e. absurd (omega arith), λ row. absurd (let short = row.0 in omega arith));
   refused = (λ e. absurd (omega arith), λ row. absurd (let short = row.0 in omega arith));
@@ -120,19 +138,70 @@ long_settles had long = record {
   too_long = (λ e. long, λ row. refl);
 }
 
+settles_check : (words : List (String Global)) (old new : World) (had : List ℕ) (end : Status) → Says words old new end
+    → IsUndisturbed words Check old new had → (code_of end ≡ 5) ⊎ SettlesCheck had (code_of end)
+settles_check words old new had status.Accepted r told =
+    let answered = answered_as words old new Check status.Accepted r told.command in let answer = answered.2.1 in
+    inr (keeping_settles had answer.0 (read_short answered.1 told.told) (spells_told answer.0 answered.1 told.told answer.1) answer.2)
+settles_check words old new had status.Refused r told =
+    let answered = answered_as words old new Check status.Refused r told.command in let answer = answered.2.1 in
+    inr (breaking_settles had answer.0 (read_short answered.1 told.told) (spells_told answer.0 answered.1 told.told answer.2) (refused_breaks answer.0 answer.1 answer.3))
+settles_check words old new had status.NotDeclarations r told =
+    let answered = answered_as words old new Check status.NotDeclarations r told.command in
+    inr (spelling_none_settles had (read_short answered.1 told.told)
+    (declined_spells_nothing had answered.2.0 (subst (λ b. IsDeclinedBy b answered.2.0) (read_told answered.1 told.told) answered.2.1)))
+settles_check words old new had status.ReadFailed r told = absurd (told.no_read_failed r.1)
+settles_check words old new had status.WriteFailed r told = absurd (told.no_write_failed r.2.0)
+settles_check words old new had status.NoMemory r told = inl refl
+settles_check words old new had status.BadWords r told = absurd (r.0 (Check, told.command))
+settles_check words old new had status.TooLong r told = inr (long_settles had (if_told (λ all. 2 ^ 26 < length all) r.1.long told.told))
+
+-- bytes that spell an input are answered by `links`, others are declined
+spelling_settles : (had : List ℕ) (input : Input) → length had ≤ 2 ^ 26 → SpellsInput had input → SettlesLinks had 0
+spelling_settles had input short spells = record {
+  accepted = (λ e. (short, (input, spells)), λ row. refl);
+  never_refused = omega arith;
+  declined = (λ e. absurd (omega arith), λ row. absurd (row.1 input spells));
+  too_long = (λ e. absurd (omega arith), λ long. absurd (omega arith));
+}
+
+no_input_settles : (had : List ℕ) → length had ≤ 2 ^ 26 → ((input : Input) → ¬ (SpellsInput had input)) → SettlesLinks had 2
+no_input_settles had short none = record {
+  accepted = (λ e. absurd (omega arith), λ row. absurd (none row.1.0 row.1.1));
+  never_refused = omega arith;
+  declined = (λ e. (short, none), λ row. refl);
+  too_long = (λ e. absurd (omega arith), λ long. absurd (omega arith));
+}
+
+long_settles_links : (had : List ℕ) → 2 ^ 26 < length had → SettlesLinks had 7
+long_settles_links had long = record {
+  accepted = (λ e. absurd (omega arith), λ row. absurd (let short = row.0 in omega arith));
+  never_refused = omega arith;
+  declined = (λ e. absurd (omega arith), λ row. absurd (let short = row.0 in omega arith));
+  too_long = (λ e. long, λ row. refl);
+}
+
+settles_links : (words : List (String Global)) (old new : World) (had : List ℕ) (end : Status) → Says words old new end
+    → IsUndisturbed words Links old new had → (code_of end ≡ 5) ⊎ SettlesLinks had (code_of end)
+settles_links words old new had status.Accepted r told =
+    let answered = answered_as words old new Links status.Accepted r told.command in let answer = answered.2.1 in
+    inr (spelling_settles had answer.0 (read_short answered.1 told.told)
+    (subst (λ (b : List ℕ). SpellsInput b answer.0) (read_told answered.1 told.told) answer.1))
+settles_links words old new had status.Refused r told = absurd (answered_as words old new Links status.Refused r told.command).2.1
+settles_links words old new had status.NotDeclarations r told =
+    let answered = answered_as words old new Links status.NotDeclarations r told.command in
+    inr (no_input_settles had (read_short answered.1 told.told)
+    (subst (λ (b : List ℕ). AreFaulty b answered.2.0) (read_told answered.1 told.told) answered.2.1).fault.nothing)
+settles_links words old new had status.ReadFailed r told = absurd (told.no_read_failed r.1)
+settles_links words old new had status.WriteFailed r told = absurd (told.no_write_failed r.2.0)
+settles_links words old new had status.NoMemory r told = inl refl
+settles_links words old new had status.BadWords r told = absurd (r.0 (Links, told.command))
+settles_links words old new had status.TooLong r told = inr (long_settles_links had (if_told (λ all. 2 ^ 26 < length all) r.1.long told.told))
+
 settles_end : (words : List (String Global)) (old new : World) (had : List ℕ) (end : Status) → Says words old new end
-    → IsUndisturbed words old new had → (code_of end ≡ 5) ⊎ Settles had (code_of end)
-settles_end words old new had status.Accepted r told = let read = r.1.1 in let answer = r.1.2.1 in
-    inr (keeping_settles had answer.0 (read_short read told.told) (spells_told answer.0 read told.told answer.1) answer.2)
-settles_end words old new had status.Refused r told = let read = r.1.1 in let answer = r.1.2.1 in
-    inr (breaking_settles had answer.0 (read_short read told.told) (spells_told answer.0 read told.told answer.2) (refused_breaks answer.0 answer.1 answer.3))
-settles_end words old new had status.NotDeclarations r told = let read = r.1.1 in
-    inr (spelling_none_settles had (read_short read told.told) (declined_spells_nothing had r.1.2.0 (subst (λ b. IsDeclinedBy b r.1.2.0) (read_told read told.told) r.1.2.1)))
-settles_end words old new had status.ReadFailed r told = absurd (told.no_read_failed r.1)
-settles_end words old new had status.WriteFailed r told = absurd (told.no_write_failed r.1)
-settles_end words old new had status.NoMemory r told = inl refl
-settles_end words old new had status.BadWords r told = absurd (r.0 told.command)
-settles_end words old new had status.TooLong r told = inr (long_settles had (if_told (λ all. 2 ^ 26 < length all) r.1.long told.told))
+    → (command : Command) → IsUndisturbed words command old new had → (code_of end ≡ 5) ⊎ Settles command had (code_of end)
+settles_end words old new had end says Check told = settles_check words old new had end says told
+settles_end words old new had end says Links told = settles_links words old new had end says told
 
 pub complete_of : (words : List (String Global)) (old new : World) (end : Status) → Says words old new end → IsComplete words old new (code_of end)
-complete_of words old new end says = λ had told. settles_end words old new had end says told
+complete_of words old new end says = λ had command told. settles_end words old new had end says command told

@@ -1,15 +1,5 @@
-pub mod BorrowLemmas
-pub mod BorrowingLemmas
 pub mod BuiltLemmas
-pub mod ChosenLemmas
+pub mod DocsLemmas
 pub mod HeadlineLemmas
 pub mod JudgeLemmas
-pub mod LinesLemmas
-pub mod ListingLemmas
-pub mod NumberLemmas
-pub mod OrderLemmas
-pub mod PageLemmas
-pub mod RefusalLemmas
-pub mod ReportLemmas
 pub mod RunLemmas
-pub mod SoundLemmas

@@ -1,8 +1,6 @@
 -- What a run did, and what that says of its status.
-use Rattle.std.proofs.Common.{◌≡◌, ◌≢◌, ℕ, ◌<◌, ◌≤◌, ◌^◌, Bool, List, [], ◌∷◌, length, map, get_or, Result, Ok, Err, refl, sym, ap, ◌∙◌, arith, inl, inr}
+use Rattle.std.proofs.Common.{◌≡◌, ◌≢◌, ℕ, ◌<◌, ◌≤◌, ◌^◌, Bool, List, [], ◌∷◌, length, map, get_or, Result, Ok, Err, refl, subst, sym, ap, ◌∙◌, arith, inl, inr}
 use Rattle.std.specs.Prelude.{◌↔◌, ◌⊎◌, IfSome, IsTrue, String, codes, string_bytes}
-use Rattle.std.specs.Str.{bytes_eq}
-use Rattle.std.proofs.lemmas.Slice.Eq.{bytes_eq-Decides}
 use Rattle.std.specs.declared.alloc.Global.{Global}
 use Rattle.bridge_decl.specs.declared.modules.Module.{Module}
 use Rattle.bridge_outside.specs.declared.sink.SinkFault.{SinkFault}
@@ -12,7 +10,9 @@ use Rattle.bridge_outside.specs.Printing.{Delivers}
 use Rattle.bridge_tool.specs.declared.status.Status.{Status}
 use Rattle.bridge_tool.specs.declared.status.Status.TheVariants as status
 use Rattle.bridge_tool.specs.Following.{Follows}
-use Rattle.bridge_tool.specs.Running.{World, AreCommand, Answers, FirstPart, IsCutShort, Ran, Says, Spells, WereRead}
+use Rattle.bridge_tool.specs.Commands.{AskFor}
+use Rattle.bridge_tool.specs.Running.{World, Answers, AnswersCheck, FirstPart, Ran, Says, Spells, WereRead}
+use Rattle.bridge_tool.specs.declared.command.Command.{Command}
 use Rattle.bridge_tool.specs.Statuses.{code_of}
 use Rattle.bridge_tool.specs.inside.Answering.{IsWhole, Printed, TellsOf, ended_with}
 
@@ -29,7 +29,7 @@ printed_text P verdict text (Err Failed) whole d of = (d.failed refl, first_part
 printed_text P verdict text (Err NoMemory) whole d of = inr (first_part P verdict text (Err NoMemory) d of)
 
 -- what tells of the declarations that bytes spell answers the bytes
-tells_answers : (bytes : List ℕ) (modules : List Module) → Spells bytes modules → (end : Status) (text : List ℕ) → TellsOf modules end text → Answers bytes end text
+tells_answers : (bytes : List ℕ) (modules : List Module) → Spells bytes modules → (end : Status) (text : List ℕ) → TellsOf modules end text → AnswersCheck bytes end text
 tells_answers bytes modules spells status.Accepted text t = (modules, spells, t.0, t.1)
 tells_answers bytes modules spells status.Refused text t = (modules, t.0, spells, t.1, t.2)
 tells_answers bytes modules spells status.NotDeclarations text t = absurd t
@@ -39,7 +39,7 @@ tells_answers bytes modules spells status.NoMemory text t = absurd t
 tells_answers bytes modules spells status.BadWords text t = absurd t
 tells_answers bytes modules spells status.TooLong text t = absurd t
 
-part_answers : (bytes : List ℕ) (modules : List Module) (old new : SinkState) → Spells bytes modules → FirstPart (TellsOf modules) old new → FirstPart (Answers bytes) old new
+part_answers : (bytes : List ℕ) (modules : List Module) (old new : SinkState) → Spells bytes modules → FirstPart (TellsOf modules) old new → FirstPart (AnswersCheck bytes) old new
 part_answers bytes modules old new spells part = record {
   status = part.status;
   text = part.text;
@@ -51,7 +51,7 @@ part_answers bytes modules old new spells part = record {
 }
 
 pub printed_answers : (bytes : List ℕ) (modules : List Module) (old new : SinkState) (end : Status) → Spells bytes modules
-    → Printed (TellsOf modules) old new end → Printed (Answers bytes) old new end
+    → Printed (TellsOf modules) old new end → Printed (AnswersCheck bytes) old new end
 printed_answers bytes modules old new status.Accepted spells p = (p.0, tells_answers bytes modules spells status.Accepted p.0 p.1, p.2)
 printed_answers bytes modules old new status.Refused spells p = (p.0, tells_answers bytes modules spells status.Refused p.0 p.1, p.2)
 printed_answers bytes modules old new status.NotDeclarations spells p = absurd p.1
@@ -63,17 +63,21 @@ printed_answers bytes modules old new status.BadWords spells p = absurd p
 printed_answers bytes modules old new status.TooLong spells p = absurd p
 
 -- what was read was answered
-pub says_answered : (words : List (String Global)) (old new : World) (bytes : List ℕ) → AreCommand words → WereRead old.source new.source bytes
-    → (end : Status) → Printed (Answers bytes) old.sink new.sink end → Says words old new end
-says_answered words old new bytes command read status.Accepted p = (command, (bytes, read, p))
-says_answered words old new bytes command read status.Refused p = (command, (bytes, read, p))
-says_answered words old new bytes command read status.NotDeclarations p = (command, (bytes, read, p))
-says_answered words old new bytes command read status.ReadFailed p = absurd p
-says_answered words old new bytes command read status.WriteFailed p = (command, p.0, (bytes, read, p.1))
-says_answered words old new bytes command read status.NoMemory (inl same) = (command, inl same)
-says_answered words old new bytes command read status.NoMemory (inr part) = (command, inr (bytes, read, part))
-says_answered words old new bytes command read status.BadWords p = absurd p
-says_answered words old new bytes command read status.TooLong p = absurd p
+pub says_answered : (words : List (String Global)) (command : Command) (old new : World) (bytes : List ℕ) → AskFor words command
+    → WereRead old.source new.source bytes → (end : Status) → Printed (Answers command bytes) old.sink new.sink end → Says words old new end
+says_answered words command old new bytes asks read status.Accepted p = (command, asks, (bytes, read, p))
+says_answered words command old new bytes asks read status.Refused p = (command, asks, (bytes, read, p))
+says_answered words command old new bytes asks read status.NotDeclarations p = (command, asks, (bytes, read, p))
+says_answered words command old new bytes asks read status.ReadFailed p = absurd p
+says_answered words command old new bytes asks read status.WriteFailed p = (command, asks, (p.0, (bytes, read, p.1)))
+says_answered words command old new bytes asks read status.NoMemory (inl same) = (command, asks, inl same)
+says_answered words command old new bytes asks read status.NoMemory (inr part) = (command, asks, inr (bytes, read, part))
+says_answered words command old new bytes asks read status.BadWords p = absurd p
+says_answered words command old new bytes asks read status.TooLong p = absurd p
+
+-- what was printed answers words that ask for a command
+pub printed_end : (P : Status → List ℕ → Type 0) (old new : SinkState) (end : Status) → Printed P old new end → end ≢ status.BadWords
+printed_end P old new end p = λ bad. subst (Printed P old new) bad p
 
 neither_of : {P Q : Type 0} → P ⊎ Q → ¬ P → ¬ Q → ⊥
 neither_of (inl p) no_p no_q = no_p p
@@ -87,44 +91,44 @@ none_of (inr (inr r)) no_p no_q no_r = no_r r
 -- what follows from the row of each status
 follows_end : (words : List (String Global)) (old new : World) (end : Status) → Says words old new end → Follows words old new (code_of end)
 follows_end words old new status.Accepted r = record {
-  accepted = λ e. r.1;
+  accepted = λ e. r;
   refused = λ e. absurd (omega arith);
   declined = λ e. absurd (omega arith);
   read_failed = λ e. absurd (omega arith);
   write_failed = λ e. absurd (omega arith);
   cut_short = λ e. absurd (neither_of e (omega arith) (omega arith));
-  bad_words = (λ e. absurd (omega arith), λ none. absurd (none r.0));
+  bad_words = (λ e. absurd (omega arith), λ none. absurd (none (r.0, r.1)));
   too_long = λ e. absurd (omega arith);
-  reads_steady = λ a b. r.1.1.no_fault;
-  writes_steady = λ a b. r.1.2.2.no_fault;
+  reads_steady = λ a b. r.2.1.no_fault;
+  writes_steady = λ a b. r.2.2.2.no_fault;
   unwritten = λ e. absurd (none_of e (omega arith) (omega arith) (omega arith));
   at_most_seven = omega arith;
 }
 follows_end words old new status.Refused r = record {
   accepted = λ e. absurd (omega arith);
-  refused = λ e. r.1;
+  refused = λ e. r;
   declined = λ e. absurd (omega arith);
   read_failed = λ e. absurd (omega arith);
   write_failed = λ e. absurd (omega arith);
   cut_short = λ e. absurd (neither_of e (omega arith) (omega arith));
-  bad_words = (λ e. absurd (omega arith), λ none. absurd (none r.0));
+  bad_words = (λ e. absurd (omega arith), λ none. absurd (none (r.0, r.1)));
   too_long = λ e. absurd (omega arith);
-  reads_steady = λ a b. r.1.1.no_fault;
-  writes_steady = λ a b. r.1.2.2.no_fault;
+  reads_steady = λ a b. r.2.1.no_fault;
+  writes_steady = λ a b. r.2.2.2.no_fault;
   unwritten = λ e. absurd (none_of e (omega arith) (omega arith) (omega arith));
   at_most_seven = omega arith;
 }
 follows_end words old new status.NotDeclarations r = record {
   accepted = λ e. absurd (omega arith);
   refused = λ e. absurd (omega arith);
-  declined = λ e. r.1;
+  declined = λ e. r;
   read_failed = λ e. absurd (omega arith);
   write_failed = λ e. absurd (omega arith);
   cut_short = λ e. absurd (neither_of e (omega arith) (omega arith));
-  bad_words = (λ e. absurd (omega arith), λ none. absurd (none r.0));
+  bad_words = (λ e. absurd (omega arith), λ none. absurd (none (r.0, r.1)));
   too_long = λ e. absurd (omega arith);
-  reads_steady = λ a b. r.1.1.no_fault;
-  writes_steady = λ a b. r.1.2.2.no_fault;
+  reads_steady = λ a b. r.2.1.no_fault;
+  writes_steady = λ a b. r.2.2.2.no_fault;
   unwritten = λ e. absurd (none_of e (omega arith) (omega arith) (omega arith));
   at_most_seven = omega arith;
 }
@@ -147,11 +151,11 @@ follows_end words old new status.WriteFailed r = record {
   refused = λ e. absurd (omega arith);
   declined = λ e. absurd (omega arith);
   read_failed = λ e. absurd (omega arith);
-  write_failed = λ e. r.1;
-  cut_short = λ e. inr r.2;
-  bad_words = (λ e. absurd (omega arith), λ none. absurd (none r.0));
+  write_failed = λ e. r.2.0;
+  cut_short = λ e. (r.0, r.1, inr r.2.1);
+  bad_words = (λ e. absurd (omega arith), λ none. absurd (none (r.0, r.1)));
   too_long = λ e. absurd (omega arith);
-  reads_steady = λ a b. r.2.1.no_fault;
+  reads_steady = λ a b. r.2.1.1.no_fault;
   writes_steady = λ a b. absurd (a refl);
   unwritten = λ e. absurd (none_of e (omega arith) (omega arith) (omega arith));
   at_most_seven = omega arith;
@@ -162,8 +166,8 @@ follows_end words old new status.NoMemory r = record {
   declined = λ e. absurd (omega arith);
   read_failed = λ e. absurd (omega arith);
   write_failed = λ e. absurd (omega arith);
-  cut_short = λ e. r.1;
-  bad_words = (λ e. absurd (omega arith), λ none. absurd (none r.0));
+  cut_short = λ e. r;
+  bad_words = (λ e. absurd (omega arith), λ none. absurd (none (r.0, r.1)));
   too_long = λ e. absurd (omega arith);
   reads_steady = λ a b. absurd (b refl);
   writes_steady = λ a b. absurd (b refl);
@@ -213,23 +217,7 @@ bad_words_end status.NoMemory e = absurd (omega (arith, e))
 bad_words_end status.BadWords e = refl
 bad_words_end status.TooLong e = absurd (omega (arith, e))
 
-single : {A : Type 0} (xs : List A) (x : A) → 1 ≤ length xs → length xs < 2 → x ≡ get_or xs 0 x → xs ≡ x ∷ []
-single [] x some few is = absurd (omega arith)
-single (y ∷ []) x some few is = ap (λ t. t ∷ []) (sym is)
-single (y ∷ z ∷ ys) x some few is = absurd (omega arith)
-
--- one word is a command exactly where it is `check`
-pub one_word_is_command : (words : List (String Global)) (word : String Global) (text : List ℕ) (answer : Bool) → 1 ≤ length words → length words < 2 → word ≡ get_or words 0 word
-    → text ≡ string_bytes word → answer ≡ bytes_eq text (codes "check") → IsTrue answer ↔ AreCommand words
-one_word_is_command words word text answer some few is text_is answer_is =
-    let one : words ≡ word ∷ [] = single words word some few is in
-    let seen : map string_bytes words ≡ string_bytes word ∷ [] = ap (map string_bytes) one in (
-      λ yes. inr (seen ∙ ap (λ t. t ∷ []) (sym text_is ∙ (bytes_eq-Decides text (codes "check")).0 (sym answer_is ∙ yes))),
-      λ command. elim command [
-        | inl none ↦ absurd (let e : string_bytes word ∷ [] ≡ [] = sym seen ∙ none in cc)
-        | inr check ↦
-            (let e : string_bytes word ∷ [] ≡ codes "check" ∷ [] = sym seen ∙ check in
-            let same : string_bytes word ≡ codes "check" = cc in
-            answer_is ∙ (bytes_eq-Decides text (codes "check")).1 (text_is ∙ same))
-      ],
-    )
+-- a list of fewer than one is empty
+pub nothing_in : {A : Type 0} (xs : List A) → length xs < 1 → xs ≡ []
+nothing_in [] few = refl
+nothing_in (x ∷ xs) few = absurd (omega arith)

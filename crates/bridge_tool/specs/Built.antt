@@ -18,7 +18,7 @@ use Rattle.bridge_decl.specs.declared.types.TypeName.{TypeName, out-TypeName}
 use Rattle.bridge_decl.specs.declared.types.TypeName.TheOpen.{TypeName-F}
 use Rattle.bridge_read.specs.forms.Attrs.{no_attrs}
 use Rattle.bridge_read.specs.forms.Docs.{no_docs}
-use Rattle.bridge_tool.specs.Checks.{Layer}
+use Rattle.bridge_check.specs.Checks.{Layer}
 
 -- the path of that one segment
 abbrev pub one_segment : List ℕ → PathType

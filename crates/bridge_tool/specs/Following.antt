@@ -3,17 +3,18 @@ use Rattle.std.specs.Prelude.{◌≡◌, ◌≢◌, ◌≤◌, ◌<◌, ◌^◌,
 use Rattle.std.specs.declared.alloc.Global.{Global}
 use Rattle.bridge_outside.specs.Outside.{Rose}
 use Rattle.bridge_tool.specs.declared.status.Status.TheVariants as status
-use Rattle.bridge_tool.specs.Running.{World, AreCommand, IsAnswered, IsCutShort}
+use Rattle.bridge_tool.specs.Commands.{AreCommand}
+use Rattle.bridge_tool.specs.Running.{World, Asked, IsAnswered, IsCutShort}
 
 -- What follows, number by number.
 pub record Follows (words : List (String Global)) (old new : World) (code : ℕ) : Type 0 where
-  pub accepted : code ≡ 0 → IsAnswered old new status.Accepted
-  pub refused : code ≡ 1 → IsAnswered old new status.Refused
-  pub declined : code ≡ 2 → IsAnswered old new status.NotDeclarations
+  pub accepted : code ≡ 0 → Asked words (λ command. IsAnswered command old new status.Accepted)
+  pub refused : code ≡ 1 → Asked words (λ command. IsAnswered command old new status.Refused)
+  pub declined : code ≡ 2 → Asked words (λ command. IsAnswered command old new status.NotDeclarations)
   pub read_failed : code ≡ 3 → Rose old.source.faults new.source.faults
   pub write_failed : code ≡ 4 → Rose old.sink.faults new.sink.faults
   -- 4 and 5: the sink took nothing, or a first part of a text that answers the bytes with another status
-  pub cut_short : (code ≡ 4) ⊎ (code ≡ 5) → (new.sink.taken ≡ old.sink.taken) ⊎ IsCutShort old new
+  pub cut_short : (code ≡ 4) ⊎ (code ≡ 5) → Asked words (λ command. (new.sink.taken ≡ old.sink.taken) ⊎ IsCutShort command old new)
   -- 6 comes exactly where the words are no command
   pub bad_words : (code ≡ 6) ↔ (¬ (AreCommand words))
   pub too_long : code ≡ 7 → IfSome old.source.left (λ had. 2 ^ 26 < length had)

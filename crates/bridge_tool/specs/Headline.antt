@@ -3,14 +3,20 @@ use Rattle.std.specs.Prelude.{◌≡◌, ◌≢◌, ◌≤◌, ◌<◌, ◌^◌,
 use Rattle.std.specs.declared.alloc.Global.{Global}
 use Rattle.bridge_decl.specs.declared.modules.Module.{Module}
 use Rattle.bridge_outside.specs.Outside.{Rose, taken_with}
-use Rattle.bridge_tool.specs.Breaks.{BreakNothing}
-use Rattle.bridge_tool.specs.Lines.{Reported, AreRefusedBy, lines}
-use Rattle.bridge_tool.specs.Page.{IsPage}
-use Rattle.bridge_tool.specs.Running.{World, AreCommand, Spells}
+use Rattle.bridge_check.specs.Breaks.{BreakNothing}
+use Rattle.bridge_check.specs.Refused.{AreRefusedBy, lines}
+use Rattle.hir_reports.specs.declared.report.LoweringReport.{LoweringReport}
+use Rattle.bridge_check.specs.Page.{IsPage}
+use Rattle.bridge_read.specs.declared.input.Input.{Input}
+use Rattle.bridge_read.specs.Inputs.{SpellsInput}
+use Rattle.bridge_tool.specs.Commands.{AskFor}
+use Rattle.bridge_tool.specs.Running.{World, Spells}
+use Rattle.bridge_tool.specs.declared.command.Command.{Command}
+use Rattle.bridge_tool.specs.declared.command.Command.TheVariants.{Check, Links}
 
--- The words are a command, the source tells these bytes, and no count of faults rises or stands at the last value of its type.
-pub record IsUndisturbed (words : List (String Global)) (old new : World) (had : List ℕ) : Type 0 where
-  pub command : AreCommand words
+-- The words ask for the command, the source tells these bytes, and no count of faults rises or stands at the last value of its type.
+pub record IsUndisturbed (words : List (String Global)) (asked : Command) (old new : World) (had : List ℕ) : Type 0 where
+  pub command : AskFor words asked
   pub told : old.source.left ≡ Some had
   pub no_read_failed : ¬ (Rose old.source.faults new.source.faults)
   pub no_write_failed : ¬ (Rose old.sink.faults new.sink.faults)
@@ -24,23 +30,35 @@ pub record AnswersDeclarations (modules : List Module) (old new : World) (code :
   -- otherwise it ends with 1
   pub refuses : code ≢ 0 → code ≡ 1
   -- and prints the lines of reports, each of a broken rule and its declaration, with one at each broken place
-  pub reports : code ≡ 1 → (reports : List Reported) × AreRefusedBy modules reports × (new.sink.taken ≡ taken_with old.sink.taken (lines reports))
+  pub reports : code ≡ 1 → (reports : List LoweringReport) × AreRefusedBy modules reports × (new.sink.taken ≡ taken_with old.sink.taken (lines reports))
   -- the source has no bytes left
   pub none_left : new.source.left ≡ Some []
 
--- THE HEADLINE: so it does for every command, where nothing disturbs it, the source's bytes are at most 2^26 and spell declarations,
+-- THE HEADLINE: so it does for `check`, where nothing disturbs it, the source's bytes are at most 2^26 and spell declarations,
 -- and memory suffices.
 abbrev pub Headline : List (String Global) → World → World → ℕ → Type 0
-Headline words old new code = (had : List ℕ) (modules : List Module) → IsUndisturbed words old new had → length had ≤ 2 ^ 26 → Spells had modules
+Headline words old new code = (had : List ℕ) (modules : List Module) → IsUndisturbed words Check old new had → length had ≤ 2 ^ 26 → Spells had modules
     → code ≢ 5 → AnswersDeclarations modules old new code
 
--- What the bytes of the source say of the status: each of 0, 1, 2 and 7 comes exactly where its row is so.
-pub record Settles (had : List ℕ) (code : ℕ) : Type 0 where
+-- What the bytes of the source say of the status of `check`: each of 0, 1, 2 and 7 comes exactly where its row is so.
+pub record SettlesCheck (had : List ℕ) (code : ℕ) : Type 0 where
   pub accepted : (code ≡ 0) ↔ ((length had ≤ 2 ^ 26) × ((modules : List Module) × Spells had modules × BreakNothing modules))
   pub refused : (code ≡ 1) ↔ ((length had ≤ 2 ^ 26) × ((modules : List Module) × Spells had modules × (¬ (BreakNothing modules))))
   pub declined : (code ≡ 2) ↔ ((length had ≤ 2 ^ 26) × ((modules : List Module) → ¬ (Spells had modules)))
   pub too_long : (code ≡ 7) ↔ (2 ^ 26 < length had)
 
+-- What they say of that of `links`, which tests no rule.
+pub record SettlesLinks (had : List ℕ) (code : ℕ) : Type 0 where
+  pub accepted : (code ≡ 0) ↔ ((length had ≤ 2 ^ 26) × ((input : Input) × SpellsInput had input))
+  pub never_refused : code ≢ 1
+  pub declined : (code ≡ 2) ↔ ((length had ≤ 2 ^ 26) × ((input : Input) → ¬ (SpellsInput had input)))
+  pub too_long : (code ≡ 7) ↔ (2 ^ 26 < length had)
+
+abbrev pub Settles : Command → List ℕ → ℕ → Type 0
+Settles Check had code = SettlesCheck had code
+Settles Links had code = SettlesLinks had code
+
 -- COMPLETENESS: where nothing disturbs a command, its bytes settle the status, but for want of memory.
 abbrev pub IsComplete : List (String Global) → World → World → ℕ → Type 0
-IsComplete words old new code = (had : List ℕ) → IsUndisturbed words old new had → (code ≡ 5) ⊎ Settles had code
+IsComplete words old new code =
+    (had : List ℕ) (command : Command) → IsUndisturbed words command old new had → (code ≡ 5) ⊎ Settles command had code

@@ -1,5 +1,5 @@
 -- What a run of the program does to the outside, by the status that it ends with.
-use Rattle.std.specs.Prelude.{◌≡◌, ◌≤◌, ◌<◌, ◌^◌, ◌⊎◌, ◌++◌, ℕ, List, [], ◌∷◌, length, map, codes, string_bytes, Some, IfSome, String}
+use Rattle.std.specs.Prelude.{◌≡◌, ◌≤◌, ◌<◌, ◌^◌, ◌⊎◌, ◌++◌, ℕ, List, [], length, Some, IfSome, String}
 use Rattle.std.specs.declared.alloc.Global.{Global}
 use Rattle.bridge_decl.specs.declared.modules.Module.{Module}
 use Rattle.bridge_read.specs.declared.input.Input.{Input}
@@ -7,11 +7,16 @@ use Rattle.bridge_read.specs.Inputs.{SpellsInput}
 use Rattle.bridge_outside.specs.Outside.{Rose, SinkState, SourceState, taken_with}
 use Rattle.bridge_tool.specs.declared.status.Status.{Status}
 use Rattle.bridge_tool.specs.declared.status.Status.TheVariants as status
-use Rattle.bridge_tool.specs.Breaks.{BreakNothing}
+use Rattle.bridge_check.specs.Breaks.{BreakNothing}
 use Rattle.bridge_tool.specs.Built.{AreBuilt}
-use Rattle.bridge_tool.specs.Declining.{IsDeclinedBy}
-use Rattle.bridge_tool.specs.Lines.{Reported, AreRefusedBy, lines}
-use Rattle.bridge_tool.specs.Page.{IsPage}
+use Rattle.bridge_tool.specs.Commands.{AreCommand, AskFor}
+use Rattle.bridge_tool.specs.Declining.{AreFaulty, IsDeclinedBy}
+use Rattle.bridge_tool.specs.DocsPage.{docs_page}
+use Rattle.bridge_tool.specs.declared.command.Command.{Command}
+use Rattle.bridge_tool.specs.declared.command.Command.TheVariants.{Check, Links}
+use Rattle.bridge_check.specs.Refused.{AreRefusedBy, lines}
+use Rattle.hir_reports.specs.declared.report.LoweringReport.{LoweringReport}
+use Rattle.bridge_check.specs.Page.{IsPage}
 use Rattle.bridge_tool.specs.Statuses.{code_of}
 
 -- The outside of a run: what its source and its sink show.
@@ -22,10 +27,6 @@ pub record World : Type 0 where
 abbrev pub world : SourceState → SinkState → World
 world source sink = record { source = source; sink = sink }
 
--- the words of the command line are a command: none, or `check`
-abbrev pub AreCommand : List (String Global) → Type 0
-AreCommand words = (map string_bytes words ≡ []) ⊎ (map string_bytes words ≡ codes "check" ∷ [])
-
 -- The bytes spell an input with these declarations, all of which are built.
 pub record Spells (bytes : List ℕ) (modules : List Module) : Type 0 where
   pub input : Input
@@ -33,18 +34,34 @@ pub record Spells (bytes : List ℕ) (modules : List Module) : Type 0 where
   pub is : modules ≡ input.env
   pub built : AreBuilt modules
 
--- The text that answers bytes with a status: 0, the page of the declarations that they spell, which break no rule; 1, the lines of the
--- reports on them, which break one; 2, the line that declines bytes that spell none.
-abbrev pub Answers : List ℕ → Status → List ℕ → Type 0
-Answers bytes status.Accepted text = (modules : List Module) × Spells bytes modules × BreakNothing modules × IsPage modules text
-Answers bytes status.Refused text =
-    (modules : List Module) × (reports : List Reported) × Spells bytes modules × AreRefusedBy modules reports × (text ≡ lines reports)
-Answers bytes status.NotDeclarations text = IsDeclinedBy bytes text
-Answers bytes status.ReadFailed text = ⊥
-Answers bytes status.WriteFailed text = ⊥
-Answers bytes status.NoMemory text = ⊥
-Answers bytes status.BadWords text = ⊥
-Answers bytes status.TooLong text = ⊥
+-- The text that answers `check` with a status: 0, the page of the declarations that the bytes spell, which break no rule; 1, the lines of
+-- the reports on them, which break one; 2, the line that declines bytes that spell none.
+abbrev pub AnswersCheck : List ℕ → Status → List ℕ → Type 0
+AnswersCheck bytes status.Accepted text = (modules : List Module) × Spells bytes modules × BreakNothing modules × IsPage modules text
+AnswersCheck bytes status.Refused text =
+    (modules : List Module) × (reports : List LoweringReport) × Spells bytes modules × AreRefusedBy modules reports × (text ≡ lines reports)
+AnswersCheck bytes status.NotDeclarations text = IsDeclinedBy bytes text
+AnswersCheck bytes status.ReadFailed text = ⊥
+AnswersCheck bytes status.WriteFailed text = ⊥
+AnswersCheck bytes status.NoMemory text = ⊥
+AnswersCheck bytes status.BadWords text = ⊥
+AnswersCheck bytes status.TooLong text = ⊥
+
+-- The text that answers `links`: 0, the page of the links of the input that the bytes spell; 2, the line that declines bytes that spell none.
+abbrev pub AnswersLinks : List ℕ → Status → List ℕ → Type 0
+AnswersLinks bytes status.Accepted text = (input : Input) × SpellsInput bytes input × (text ≡ docs_page input)
+AnswersLinks bytes status.Refused text = ⊥
+AnswersLinks bytes status.NotDeclarations text = AreFaulty bytes text
+AnswersLinks bytes status.ReadFailed text = ⊥
+AnswersLinks bytes status.WriteFailed text = ⊥
+AnswersLinks bytes status.NoMemory text = ⊥
+AnswersLinks bytes status.BadWords text = ⊥
+AnswersLinks bytes status.TooLong text = ⊥
+
+-- The text that answers a command.
+abbrev pub Answers : Command → List ℕ → Status → List ℕ → Type 0
+Answers Check bytes = AnswersCheck bytes
+Answers Links bytes = AnswersLinks bytes
 
 -- These are all the bytes that the source had, at most 2^26; no read failed, and it has none left.
 pub record WereRead (old new : SourceState) (bytes : List ℕ) : Type 0 where
@@ -78,23 +95,27 @@ pub record FirstPart (P : Status → List ℕ → Type 0) (old new : SinkState) 
   pub parts : sent ++ rest ≡ text
   pub took : new.taken ≡ taken_with old.taken sent
 
--- All bytes were read, and the sink took exactly the text that answers them with this status.
-abbrev pub IsAnswered : World → World → Status → Type 0
-IsAnswered old new status =
-    (bytes : List ℕ) × WereRead old.source new.source bytes × ((text : List ℕ) × Answers bytes status text × WasTaken old.sink new.sink text)
+-- All bytes were read, and the sink took exactly the text that answers the command with this status.
+abbrev pub IsAnswered : Command → World → World → Status → Type 0
+IsAnswered command old new status =
+    (bytes : List ℕ) × WereRead old.source new.source bytes × ((text : List ℕ) × Answers command bytes status text × WasTaken old.sink new.sink text)
 
--- All bytes were read, and the sink took a first part of a text that answers them.
-abbrev pub IsCutShort : World → World → Type 0
-IsCutShort old new = (bytes : List ℕ) × WereRead old.source new.source bytes × FirstPart (Answers bytes) old.sink new.sink
+-- All bytes were read, and the sink took a first part of a text that answers the command.
+abbrev pub IsCutShort : Command → World → World → Type 0
+IsCutShort command old new = (bytes : List ℕ) × WereRead old.source new.source bytes × FirstPart (Answers command bytes) old.sink new.sink
+
+-- The words ask for a command of which P holds.
+abbrev pub Asked : List (String Global) → (Command → Type 0) → Type 0
+Asked words P = (command : Command) × AskFor words command × P command
 
 -- THE TABLE OF STATUSES: what each says of the words, and of the outside before and after the run.
 abbrev pub Says : List (String Global) → World → World → Status → Type 0
-Says words old new status.Accepted = AreCommand words × IsAnswered old new status.Accepted
-Says words old new status.Refused = AreCommand words × IsAnswered old new status.Refused
-Says words old new status.NotDeclarations = AreCommand words × IsAnswered old new status.NotDeclarations
+Says words old new status.Accepted = Asked words (λ command. IsAnswered command old new status.Accepted)
+Says words old new status.Refused = Asked words (λ command. IsAnswered command old new status.Refused)
+Says words old new status.NotDeclarations = Asked words (λ command. IsAnswered command old new status.NotDeclarations)
 Says words old new status.ReadFailed = AreCommand words × Rose old.source.faults new.source.faults × NothingTaken old.sink new.sink
-Says words old new status.WriteFailed = AreCommand words × Rose old.sink.faults new.sink.faults × IsCutShort old new
-Says words old new status.NoMemory = AreCommand words × ((new.sink.taken ≡ old.sink.taken) ⊎ IsCutShort old new)
+Says words old new status.WriteFailed = Asked words (λ command. Rose old.sink.faults new.sink.faults × IsCutShort command old new)
+Says words old new status.NoMemory = Asked words (λ command. (new.sink.taken ≡ old.sink.taken) ⊎ IsCutShort command old new)
 Says words old new status.BadWords = ¬ (AreCommand words) × (new ≡ old)
 Says words old new status.TooLong = AreCommand words × IsTooLong old.source new.source × NothingTaken old.sink new.sink
 

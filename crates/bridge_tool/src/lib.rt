@@ -18,15 +18,18 @@
 //! ok 1
 //! ```
 //!
-//! `run` goes from bytes to text in four steps, each a module with one public call:
+//! `run` goes from bytes to text in four steps:
 //!
 //! 1. **The verdict** (`judge`): the bytes spell declarations, or they have a first fault, or they spell a form that isn't built yet. In
 //!    the last two cases one line is printed (`decline`), and the status is 2.
-//! 2. **The rules** (`rules`): every name, path and lifetime is tested, module by module (`order`). Were `y` a `&'b Q`, the path `Q`
-//!    would break the rule `UnresolvedPath` at the place `O::pick`. All broken rules are told, each in a report (`lines`): status 1.
-//! 3. **The borrowings** (`borrow`): where no rule is broken, the inputs of each method are its leaves, `this` and `y`, each with the
-//!    lifetime that it carries. Under each lifetime that the return names, `'a`, those are listed that carry it or one that outlives it.
-//! 4. **The page** (`page`) is printed: status 0. It stands before its first byte is written.
+//! 2. **The rules** (`bridge_check::reports_of`): every name, path and lifetime is tested. Were `y` a `&'b Q`, the path `Q` would break the rule
+//!    `UnresolvedPath` at the place `O::pick`. All broken rules are told, each in a report (`lines`): status 1.
+//! 3. **The borrowings** (`bridge_check::borrowings_of`): where no rule is broken, the inputs of each method are its leaves, `this` and `y`, each
+//!    with the lifetime that it carries. Under each lifetime that the return names, `'a`, those are listed that carry it or one that outlives it.
+//! 4. **The page** (`bridge_check::print_page`) is printed: status 0. It stands before its first byte is written.
+//!
+//! Asked for `links` (`command`), it prints a line for each link of the declarations to documentation in place of steps 2 to 4, and tests no rule
+//! (`docs`).
 //!
 //! What a run promises is the contract of `run`, in six clauses: the headline (0 exactly where no rule is broken, with exactly the
 //! page; else 1 with the reports), completeness (the bytes settle the status, but for want of memory), what each status says, and that it
@@ -34,19 +37,15 @@
 //! `what_statuses_say` states what follows from the third, status by status.
 #![tactic(auto)]
 
-mod borrow;
-mod borrowing;
 mod built;
-mod declarations;
+mod command;
 mod decline;
-mod faults;
+mod docs;
 mod judge;
 mod lines;
-mod order;
-mod page;
 mod program;
-mod rules;
 mod status;
+mod text;
 mod verdict;
 
 pub use bridge_outside::{

@@ -1,46 +1,36 @@
 //! The whole program over any source and any sink.
 
-ghost use Rattle.std.specs.Prelude.{◌≡◌, ◌≤◌, ◌+◌, ◌^◌, ◌↔◌, ℕ, List, String, length, map, IsTrue};
+ghost use Rattle.std.specs.Prelude.{◌≡◌, ◌≢◌, ◌≤◌, ◌+◌, ◌^◌, ℕ, List, [], String, length};
 ghost use Rattle.std.specs.declared.alloc.Global.{Global as Allocator};
 ghost use Rattle.bridge_decl.specs.declared.modules.Module.{Module as Declared};
 ghost use Rattle.bridge_ast.specs.Sound.{AreSound};
 ghost use Rattle.bridge_tool.specs.inside.Judging.{Judges};
-ghost use Rattle.bridge_tool.specs.Breaks.{BreakNothing};
-ghost use Rattle.bridge_tool.specs.Checks.{tested_in};
-ghost use Rattle.bridge_tool.specs.Chosen.{Chosen};
+ghost use Rattle.bridge_check.specs.Breaks.{BreakNothing};
 ghost use Rattle.bridge_tool.specs.Following.{Follows};
 ghost use Rattle.bridge_tool.specs.Headline.{Headline, IsComplete};
 ghost use Rattle.bridge_outside.specs.Outside.{left_after};
-ghost use Rattle.bridge_tool.specs.Checks.{TestFails};
-ghost use Rattle.bridge_tool.specs.inside.Reporting.{tested_of};
-ghost use Rattle.bridge_tool.specs.Order.{module_order};
-ghost use Rattle.bridge_tool.specs.Running.{Answers, AreCommand, Ran, Says, World, world};
+ghost use Rattle.bridge_check.specs.Order.{module_order};
+ghost use Rattle.bridge_check.specs.Refused.{AreRefusedBy};
+ghost use Rattle.bridge_read.specs.Inputs.{SpellsInput};
+ghost use Rattle.bridge_tool.specs.Commands.{AskFor};
+ghost use Rattle.bridge_tool.specs.Declining.{IsFaultOf};
+ghost use Rattle.bridge_tool.specs.Running.{Answers, AnswersCheck, AnswersLinks, Ran, Says, World, world};
 ghost use Rattle.bridge_tool.specs.inside.Answering.{Printed, TellsOf, ended_with};
 
-use crate::borrow::borrowings_of;
+use crate::command::{Command, command_of};
 use crate::decline::print_fault;
-use crate::faults::Report;
+use crate::docs::docs_page;
 use crate::judge::judge;
-use crate::lines::print_lines;
-use crate::order::module_order;
-use crate::page::print_page;
-use crate::rules::faults_in;
+use crate::lines::report_lines;
 use crate::status::Status;
+use crate::text::print_text;
 use crate::verdict::Verdict;
-use bridge_ast::{Env, Module};
+use bridge_ast::{Env, Module, Text};
+use bridge_check::{borrowings_of, module_order, print_page, reports_of};
 use bridge_outside::{ReadFault, Sink, SinkFault, Source, print_line, read_all};
+use bridge_read::{Input, InputFault, InputKind, read_input};
+use hir_reports::LoweringReport;
 use std::alloc::{AllocError, Global};
-
-/// Whether the words are a command: none, or `check`.
-fn are_command(words: &[String]) -> bool
-    ensures { IsTrue result ↔ AreCommand words.now }
-{
-    match words {
-        [] => true,
-        [word] => word.as_str() == "check",
-        _ => false,
-    }
-}
 
 /// The status once a verdict was printed.
 fn ended(verdict: Status, printed: Result<(), SinkFault>) -> Status
@@ -69,35 +59,37 @@ fn accept<K: Sink>(alloc: Global, sink: &mut K, modules: &[Module], order: &[usi
     }
 }
 
-/// Prints the reports of declarations that have these faults.
-fn refuse<K: Sink>(sink: &mut K, faults: &[Report<'_>]) -> Status
-    requires { 1 ≤ length faults.now }
-    ensures { (modules : List Declared) → Chosen (TestFails modules) (tested_in modules)
-        (map tested_of faults.now)
+/// Prints the lines of these reports.
+fn refuse<K: Sink>(alloc: Global, sink: &mut K, reports: &[LoweringReport]) -> Status
+    ensures { (modules : List Declared) → AreRefusedBy modules reports.now
         → Printed (TellsOf modules) (K.state sink.old) (K.state sink.new) result }
 {
-    let printed = print_lines(sink, faults);
-    ended(Status::Refused, printed)
+    match report_lines(alloc, reports) {
+        Ok(text) => {
+            let printed = print_text(sink, text.as_str());
+            ended(Status::Refused, printed)
+        }
+        Err(AllocError) => Status::NoMemory,
+    }
 }
 
-/// Prints the page of declarations, or the reports of their faults where they have any.
+/// Prints the page of declarations, or the reports of the rules that they break.
 fn tell_of<K: Sink>(
     alloc: Global,
     sink: &mut K,
     modules: &[Module],
     order: &[usize],
-    faults: &[Report<'_>],
+    reports: &[LoweringReport],
 ) -> Status
     requires order { order.now ≡ module_order modules.now }
     requires sound { AreSound modules.now }
-    requires faults { Chosen (TestFails modules.now) (tested_in modules.now)
-        (map tested_of faults.now) }
+    requires kept { reports.now ≡ [] → BreakNothing modules.now }
+    requires refused { 1 ≤ length reports.now → AreRefusedBy modules.now reports.now }
     ensures { Printed (TellsOf modules.now) (K.state sink.old) (K.state sink.new) result }
 {
-    if faults.is_empty() {
-        accept(alloc, sink, modules, order)
-    } else {
-        refuse(sink, faults)
+    match reports {
+        [] => accept(alloc, sink, modules, order),
+        _ => refuse(alloc, sink, reports),
     }
 }
 
@@ -106,8 +98,8 @@ fn tell_in<K: Sink>(alloc: Global, sink: &mut K, env: &Env, order: &[usize]) -> 
     requires { order.now ≡ module_order env.now }
     ensures { Printed (TellsOf env.now) (K.state sink.old) (K.state sink.new) result }
 {
-    match faults_in(alloc, env, order) {
-        Ok(faults) => tell_of(alloc, sink, env.modules(), order, &faults),
+    match reports_of(alloc, env, order) {
+        Ok(reports) => tell_of(alloc, sink, env.modules(), order, &reports),
         Err(AllocError) => Status::NoMemory,
     }
 }
@@ -125,7 +117,7 @@ pub fn tell<K: Sink>(alloc: Global, sink: &mut K, env: &Env) -> Status
 /// Prints what a verdict says: the page, the reports, or one line.
 fn answer<K: Sink>(alloc: Global, sink: &mut K, verdict: &Verdict) -> Status
     ensures { (bytes : List ℕ) → Judges bytes verdict.now
-        → Printed (Answers bytes) (K.state sink.old) (K.state sink.new) result }
+        → Printed (AnswersCheck bytes) (K.state sink.old) (K.state sink.new) result }
 {
     match verdict {
         Verdict::Declarations(env) => tell(alloc, sink, env),
@@ -142,11 +134,77 @@ fn answer<K: Sink>(alloc: Global, sink: &mut K, verdict: &Verdict) -> Status
 
 /// Checks the input that was read, and prints what it is.
 fn check<K: Sink>(alloc: Global, bytes: &[u8], sink: &mut K) -> Status
-    ensures { Printed (Answers bytes.now) (K.state sink.old) (K.state sink.new) result }
+    ensures { Printed (AnswersCheck bytes.now) (K.state sink.old) (K.state sink.new) result }
 {
     match judge(alloc, bytes) {
         Ok(verdict) => answer(alloc, sink, &verdict),
         Err(AllocError) => Status::NoMemory,
+    }
+}
+
+/// Prints the page of an input's links.
+fn tell_links<K: Sink>(alloc: Global, sink: &mut K, input: &Input) -> Status
+    ensures { (bytes : List ℕ) → SpellsInput bytes input.now
+        → Printed (AnswersLinks bytes) (K.state sink.old) (K.state sink.new) result }
+{
+    match docs_page(alloc, input) {
+        Ok(page) => {
+            let printed = print_text(sink, page.as_str());
+            ended(Status::Accepted, printed)
+        }
+        Err(AllocError) => Status::NoMemory,
+    }
+}
+
+/// Prints the line that declines bytes that spell no input, for the command `links`.
+fn decline_links<K: Sink>(sink: &mut K, kind: InputKind, pointer: &Text) -> Status
+    ensures { (bytes : List ℕ) → IsFaultOf bytes kind pointer.now
+        → Printed (AnswersLinks bytes) (K.state sink.old) (K.state sink.new) result }
+{
+    let printed = print_fault(sink, kind, pointer.as_str());
+    ended(Status::NotDeclarations, printed)
+}
+
+/// Prints the page of the links of the input that was read.
+fn links<K: Sink>(alloc: Global, bytes: &[u8], sink: &mut K) -> Status
+    ensures { Printed (AnswersLinks bytes.now) (K.state sink.old) (K.state sink.new) result }
+{
+    match read_input(alloc, bytes) {
+        Ok(input) => tell_links(alloc, sink, &input),
+        Err(InputFault::NotDeclarations { kind, pointer }) => decline_links(sink, kind, &pointer),
+        Err(InputFault::NoMemory) => Status::NoMemory,
+    }
+}
+
+/// Answers a command of the bytes that were read.
+fn obey<K: Sink>(alloc: Global, command: Command, bytes: &[u8], sink: &mut K) -> Status
+    ensures { Printed (Answers command bytes.now) (K.state sink.old) (K.state sink.new) result }
+{
+    match command {
+        Command::Check => check(alloc, bytes, sink),
+        Command::Links => links(alloc, bytes, sink),
+    }
+}
+
+/// Reads all of the source, and answers a command.
+fn read_and_obey<S: Source, K: Sink>(
+    alloc: Global,
+    command: Command,
+    source: &mut S,
+    sink: &mut K,
+) -> Status
+    ensures says { (words : List (String Allocator)) → AskFor words command
+        → Says words (world (S.state source.old) (K.state sink.old))
+        (world (S.state source.new) (K.state sink.new)) result }
+    ensures few_reads { (S.state source.new).calls ≤ (S.state source.old).calls + (2 ^ 26 + 2) }
+    ensures rest { (n : ℕ) × ((S.state source.new).left ≡ left_after n (S.state source.old).left) }
+    ensures command { result ≢ Status.BadWords }
+{
+    match read_all(alloc, source) {
+        Ok(bytes) => obey(alloc, command, &bytes, sink),
+        Err(ReadFault::Failed) => Status::ReadFailed,
+        Err(ReadFault::TooLong) => Status::TooLong,
+        Err(ReadFault::NoMemory) => Status::NoMemory,
     }
 }
 
@@ -163,26 +221,23 @@ fn run_to_status<S: Source, K: Sink>(
     ensures rest { (n : ℕ) × ((S.state source.new).left ≡ left_after n (S.state source.old).left) }
     ensures untouched { result ≡ Status.BadWords → source.new ≡ source.old }
 {
-    if !are_command(words) {
-        return Status::BadWords;
-    }
-    match read_all(alloc, source) {
-        Ok(bytes) => check(alloc, &bytes, sink),
-        Err(ReadFault::Failed) => Status::ReadFailed,
-        Err(ReadFault::TooLong) => Status::TooLong,
-        Err(ReadFault::NoMemory) => Status::NoMemory,
+    match command_of(words) {
+        Some(command) => read_and_obey(alloc, command, source, sink),
+        None => Status::BadWords,
     }
 }
 
-/// Runs the program: reads all of the source, and prints to the sink the page of the declarations, the reports of the rules
-/// that they break, or one line that says why there are no declarations. The answer is the status of the program, at most 7.
+/// Runs the program: reads all of the source, and prints to the sink what the words after the program's name ask for. For `check`, or
+/// without a word, that is the page of the declarations, or the reports of the rules that they break. For `links` it is a line for each
+/// link of the declarations to documentation, and no rule is tested. Where the bytes spell no input it is one line that says why. The answer
+/// is the status of the program, at most 7.
 ///
-/// The words are those after the program's name. Statuses: 0 where the declarations are accepted, 1 where they break
-/// a rule, 2 where the bytes spell no declarations that fit together and are built, 3 where a read failed, 4 where a write failed, 5 where
-/// memory ran out, 6 where the words are no command, 7 where the source gave more than 2^26 bytes. With 3, 6 and 7 nothing is
-/// written, and with 6 nothing is read. It makes at most 2^26 + 2 reads.
+/// Statuses: 0 where the declarations are accepted, or their links are printed, 1 where they break a rule, 2 where the bytes spell no
+/// declarations that fit together and, for `check`, are built, 3 where a read failed, 4 where a write failed, 5 where memory ran out, 6 where
+/// the words are no command, 7 where the source gave more than 2^26 bytes. With 3, 6 and 7 nothing is written, and with 6 nothing is
+/// read. It makes at most 2^26 + 2 reads.
 pub fn run<S: Source, K: Sink>(alloc: Global, words: &[String], source: &mut S, sink: &mut K) -> u8
-    // Where the source's bytes are told, at most 2^26, and spell declarations, and nothing fails: it ends with 0 exactly where no
+    // For `check`, where the source's bytes are told, at most 2^26, and spell declarations, and nothing fails: it ends with 0 exactly where no
     // declaration breaks a rule, and prints their page; else it ends with 1, and prints reports of the broken rules.
     ensures headline { Headline words.now (world (S.state source.old) (K.state sink.old))
         (world (S.state source.new) (K.state sink.new)) result }

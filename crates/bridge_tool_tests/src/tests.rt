@@ -2,4 +2,5 @@
 
 mod examples;
 mod inputs;
+mod links;
 mod program;

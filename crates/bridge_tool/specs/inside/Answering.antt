@@ -6,9 +6,10 @@ use Rattle.bridge_outside.specs.declared.sink.SinkFault.{SinkFault}
 use Rattle.bridge_outside.specs.declared.sink.SinkFault.TheVariants.{Failed, NoMemory}
 use Rattle.bridge_tool.specs.declared.status.Status.{Status}
 use Rattle.bridge_tool.specs.declared.status.Status.TheVariants as status
-use Rattle.bridge_tool.specs.Breaks.{BreakNothing}
-use Rattle.bridge_tool.specs.Lines.{Reported, AreRefusedBy, lines}
-use Rattle.bridge_tool.specs.Page.{IsPage}
+use Rattle.bridge_check.specs.Breaks.{BreakNothing}
+use Rattle.bridge_check.specs.Refused.{AreRefusedBy, lines}
+use Rattle.hir_reports.specs.declared.report.LoweringReport.{LoweringReport}
+use Rattle.bridge_check.specs.Page.{IsPage}
 use Rattle.bridge_tool.specs.Running.{FirstPart, WasTaken}
 
 -- the status once a verdict was printed
@@ -20,7 +21,7 @@ ended_with verdict (Err NoMemory) = status.NoMemory
 -- the text that tells of declarations, by the status
 abbrev pub TellsOf : List Module → Status → List ℕ → Type 0
 TellsOf modules status.Accepted text = BreakNothing modules × IsPage modules text
-TellsOf modules status.Refused text = (reports : List Reported) × AreRefusedBy modules reports × (text ≡ lines reports)
+TellsOf modules status.Refused text = (reports : List LoweringReport) × AreRefusedBy modules reports × (text ≡ lines reports)
 TellsOf modules status.NotDeclarations text = ⊥
 TellsOf modules status.ReadFailed text = ⊥
 TellsOf modules status.WriteFailed text = ⊥

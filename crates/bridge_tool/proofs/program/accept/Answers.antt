@@ -1,15 +1,11 @@
 use Rattle.std.proofs.Common.{List, ap, length, refl, subst, sym, ◌∙◌}
-use Rattle.bridge_tool.specs.declared.borrowing.CallableReport.{CallableReport}
+use Rattle.bridge_check.specs.declared.borrowing.CallableReport.{CallableReport}
 use Rattle.bridge_tool.specs.declared.status.Status.TheVariants as status
 use Rattle.bridge_tool.specs.inside.Answering.{TellsOf}
-use Rattle.bridge_tool.specs.Borrows.{AreBorrowings, IsCallableBorrowing, callables}
-use Rattle.bridge_tool.proofs.JudgeLemmas.{names_pass}
-use Rattle.bridge_tool.proofs.PageLemmas.{pairs_length}
+use Rattle.bridge_check.specs.Borrows.{AreBorrowings, IsCallableBorrowing, callables}
+use Rattle.bridge_check.proofs.PageLemmas.{pairs_length}
 use Rattle.bridge_tool.proofs.RunLemmas.{printed_text}
 use Rattle.bridge_tool.proofs.program.accept.Goals as goal
-
-pub borrowings_of-requires-clause-names : goal.borrowings_of-requires-clause-names
-borrowings_of-requires-clause-names g c = names_pass c.args.modules.now c.requires.keep
 
 pub print_page-printed-requires : goal.print_page-printed-requires
 print_page-printed-requires g c = record {

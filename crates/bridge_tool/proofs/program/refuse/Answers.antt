@@ -1,13 +1,11 @@
-use Rattle.std.proofs.Common.{refl}
+use Rattle.std.proofs.Common.{◌∙◌}
 use Rattle.bridge_tool.specs.declared.status.Status.TheVariants as status
-use Rattle.bridge_tool.specs.inside.Reporting.{tested_of}
 use Rattle.bridge_tool.specs.inside.Answering.{TellsOf}
-use Rattle.bridge_tool.proofs.RefusalLemmas.{refused_by_faults}
 use Rattle.bridge_tool.proofs.RunLemmas.{printed_text}
 use Rattle.bridge_tool.proofs.program.refuse.Goals as goal
 
-pub returns : goal.returns
-returns g c = λ modules chosen.
+pub returns-in-Ok : goal.returns-in-Ok
+returns-in-Ok g c = λ modules refused.
     rw c.ended.ensures
-    (printed_text (TellsOf modules) status.Refused _ c.print_lines-printed.result (λ whole. whole) c.print_lines-printed.ensures
-    (_, refused_by_faults tested_of modules c.args.faults.now c.requires chosen, refl))
+    (printed_text (TellsOf modules) status.Refused _ c.print_text-printed.result (λ whole. whole) c.print_text-printed.ensures
+    (c.args.reports.now, refused, c.as_str.ensures.value ∙ c.in-Ok.ensures))

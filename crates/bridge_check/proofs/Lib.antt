@@ -1,0 +1,12 @@
+pub mod BorrowLemmas
+pub mod BorrowingLemmas
+pub mod ChosenLemmas
+pub mod ListingLemmas
+pub mod NumberLemmas
+pub mod OrderLemmas
+pub mod PageLemmas
+pub mod PathLemmas
+pub mod RefusalLemmas
+pub mod ReportLemmas
+pub mod SoundLemmas
+pub mod TestLemmas

@@ -1,0 +1,11 @@
+pub mod Borrows
+pub mod Breaks
+pub mod Checks
+pub mod Chosen
+pub mod Methods
+pub mod Order
+pub mod Page
+pub mod Refused
+pub mod Tested
+pub mod inside
+pub mod rules

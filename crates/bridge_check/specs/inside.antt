@@ -1,0 +1,4 @@
+pub mod Listing
+pub mod Reporting
+pub mod Signatures
+pub mod TextParts

@@ -1,6 +1,0 @@
-use Rattle.std.proofs.Common.{◌≡◌, take}
-use Rattle.bridge_tool.specs.Order.{deepest}
-use Rattle.bridge_tool.proofs.order.deepest.Given as goal
-
-abbrev pub invariant-loop-module : goal.invariant-loop-module
-invariant-loop-module l = l.most ≡ deepest (take l.module-index l.modules)

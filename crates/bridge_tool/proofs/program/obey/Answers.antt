@@ -1,0 +1,7 @@
+use Rattle.bridge_tool.proofs.program.obey.Goals as goal
+
+pub returns-in-Check : goal.returns-in-Check
+returns-in-Check g c = rw c.in-Check.is c.check.ensures
+
+pub returns-in-Links : goal.returns-in-Links
+returns-in-Links g c = rw c.in-Links.is c.links.ensures
