@@ -31,7 +31,7 @@ use Rattle.hir_number.specs.Shapes.{NumberLists, bare, shape}
 use Rattle.hir_number.specs.Uses.{type_uses}
 use Rattle.bridge_decl.specs.declared.structs.Field.{Field}
 use Rattle.std.specs.List.{flat_map}
-use Rattle.hir_number.specs.Signatures.{Placed, field_uses, function_uses, method_uses, output_uses, param_uses, receiver_borrow, receiver_uses, signature_uses, trait_method_uses, without_writer}
+use Rattle.hir_number.specs.Signatures.{Placed, Usual, field_uses, function_uses, method_uses, output_uses, param_uses, receiver_borrow, receiver_uses, signature_uses, trait_method_uses, without_writer}
 use Rattle.hir_number.specs.inside.Runs.{fields_run, signature_run, trait_method_run, run_value, whole_run, Starts, StartTells}
 use Rattle.hir_number.specs.inside.Threads.{RunTells, Meets, Run, given, standing, run_next}
 use Rattle.hir_number.proofs.FaultLemmas.{FineBy, IsLowered, answers_lowered}
@@ -128,10 +128,10 @@ if_ok P Q (Err e) k h = tt
 
 pub signature_given : (names : Naming) (declared : LifetimeEnv) (receiver : Option SelfParam) (params : List Param) (output : Option TypeName) (result : Result NumberedSignature NumberFault)
     → Starts declared result (whole_run declared (signature_run names receiver params output))
-    → IfOk result (IsNumbered names declared receiver params output (signature_uses (receiver_borrow receiver) (receiver_uses names receiver ++ param_uses names params) Returning (output_uses names output)))
-    × IfErr result (λ e. FaultTold declared e (signature_numbers declared (signature_uses (receiver_borrow receiver) (receiver_uses names receiver ++ param_uses names params) Returning (output_uses names output))))
+    → IfOk result (IsNumbered names declared receiver params output (signature_uses (receiver_borrow receiver) (receiver_uses names receiver ++ param_uses names params) (Usual Returning) (output_uses names output)))
+    × IfErr result (λ e. FaultTold declared e (signature_numbers declared (signature_uses (receiver_borrow receiver) (receiver_uses names receiver ++ param_uses names params) (Usual Returning) (output_uses names output))))
 signature_given names declared receiver params output result h =
-    let us : List Placed = signature_uses (receiver_borrow receiver) (receiver_uses names receiver ++ param_uses names params) Returning (output_uses names output) in
+    let us : List Placed = signature_uses (receiver_borrow receiver) (receiver_uses names receiver ++ param_uses names params) (Usual Returning) (output_uses names output) in
     let both = numbers_given declared numbers_of (IsShaped names receiver params output) (signature_run names receiver params output) us (flat_signature names receiver params output) (signature_end names receiver params output) result h in (
       if_ok (Comes_of declared us numbers_of (IsShaped names receiver params output)) _ result (λ n has.
           record { numbers = has.0; borrow = has.1.borrow; own = has.1.own; params = has.1.params; output = has.1.output; lifetimes = has.1.lifetimes }) both.0,
@@ -156,7 +156,7 @@ fields_given names item result h =
     let Q : List NumberedType → Type 0 = λ types. map bare types ≡ map (λ (field : Field). shape names field.ty) item.fields in
     let run : Run (List NumberedType) = fields_run Defining names item.fields in
     let both = numbers_given item.lifetimes numbers_of_each (λ types t. Q types) run (field_uses names item.fields)
-    (flat_placed Defining numbers_of_each run (flat_map (λ (field : Field). type_uses names field.ty) item.fields) (flat_fields names Defining item.fields))
+    (flat_placed (Usual Defining) numbers_of_each run (flat_map (λ (field : Field). type_uses names field.ty) item.fields) (flat_fields names Defining item.fields))
     (λ s. end_bears Q run (fields_bear names Defining item.fields) s) result h in
     (if_ok (Comes_of item.lifetimes (field_uses names item.fields) numbers_of_each (λ types t. Q types)) _ result (λ types has. record { numbers = has.0; shapes = has.1 }) both.0, both.1)
 

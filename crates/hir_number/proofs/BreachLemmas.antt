@@ -9,15 +9,15 @@ use Rattle.bridge_decl.specs.declared.methods.Method.{Method}
 use Rattle.bridge_decl.specs.declared.methods.Param.{Param}
 use Rattle.hir_elide.specs.Occurrences.{Borrow, Counting}
 use Rattle.bridge_decl.specs.declared.structs.Field.{Field}
-use Rattle.hir_elide.specs.Phases.{Defining, Phase, Returning, Using}
+use Rattle.hir_elide.specs.Phases.{Defining, Returning, Using}
 use Rattle.hir_number.specs.Naming.{Naming}
 use Rattle.hir_number.specs.Breaches.{Broken, Demand, breaches_of, use_breaches, uses_of}
-use Rattle.hir_number.specs.Signatures.{Placed, field_uses, function_uses, method_uses, output_uses, param_uses, placed, receiver_borrow, receiver_uses, without_writer}
+use Rattle.hir_number.specs.Signatures.{Section, Placed, Usual, field_uses, function_uses, method_uses, output_uses, param_uses, placed, receiver_borrow, receiver_uses, without_writer}
 use Rattle.hir_number.specs.Uses.{Use, borrow_uses, type_uses}
 
-uses_placed : (phase : Phase) (us : List Use) → uses_of (placed phase us) ≡ us
-uses_placed phase [] = refl
-uses_placed phase (u ∷ us) = ap (λ vs. u ∷ vs) (uses_placed phase us)
+uses_placed : (part : Section) (us : List Use) → uses_of (placed part us) ≡ us
+uses_placed part [] = refl
+uses_placed part (u ∷ us) = ap (λ vs. u ∷ vs) (uses_placed part us)
 
 module _ (names : List (List ℕ)) (demand : Demand) where
   abbrev Of : List Use → List Broken
@@ -27,19 +27,19 @@ module _ (names : List (List ℕ)) (demand : Demand) where
   both us vs = flat_map-append (use_breaches names demand) us vs
 
   -- those of placed uses
-  pub of_placed : (phase : Phase) (us : List Use) → Of (uses_of (placed phase us)) ≡ Of us
-  of_placed phase us = ap Of (uses_placed phase us)
+  pub of_placed : (part : Section) (us : List Use) → Of (uses_of (placed part us)) ≡ Of us
+  of_placed part us = ap Of (uses_placed part us)
 
   placed_both : (ps qs : List Placed) → Of (uses_of (ps ++ qs)) ≡ Of (uses_of ps) ++ Of (uses_of qs)
   placed_both ps qs = ap Of (map-append (λ (p : Placed). p.1) ps qs) ∙ both (uses_of ps) (uses_of qs)
 
   -- those of a signature: of the receiver's borrow, the receiver's type, the parameters and the return
-  pub of_signature : (phase another last : Phase) (bs rs ps os : List Use)
-      → Of (uses_of ((placed phase bs ++ placed another (rs ++ ps)) ++ placed last os)) ≡ (Of bs ++ Of rs) ++ (Of ps ++ Of os)
-  of_signature phase another last bs rs ps os =
-      placed_both (placed phase bs ++ placed another (rs ++ ps)) (placed last os)
-      ∙ ap (λ xs. xs ++ Of (uses_of (placed last os))) (placed_both (placed phase bs) (placed another (rs ++ ps)))
-      ∙ ap (λ xs. (xs ++ Of (uses_of (placed another (rs ++ ps)))) ++ Of (uses_of (placed last os))) (of_placed phase bs)
+  pub of_signature : (part another last : Section) (bs rs ps os : List Use)
+      → Of (uses_of ((placed part bs ++ placed another (rs ++ ps)) ++ placed last os)) ≡ (Of bs ++ Of rs) ++ (Of ps ++ Of os)
+  of_signature part another last bs rs ps os =
+      placed_both (placed part bs ++ placed another (rs ++ ps)) (placed last os)
+      ∙ ap (λ xs. xs ++ Of (uses_of (placed last os))) (placed_both (placed part bs) (placed another (rs ++ ps)))
+      ∙ ap (λ xs. (xs ++ Of (uses_of (placed another (rs ++ ps)))) ++ Of (uses_of (placed last os))) (of_placed part bs)
       ∙ ap (λ xs. (Of bs ++ xs) ++ Of (uses_of (placed last os))) (of_placed another (rs ++ ps) ∙ both rs ps)
       ∙ ap (λ xs. (Of bs ++ (Of rs ++ Of ps)) ++ xs) (of_placed last os)
       ∙ ap (λ xs. xs ++ Of os) (sym (append_assoc (Of bs) (Of rs) (Of ps)))
@@ -62,7 +62,7 @@ method_told n all demand method params old mid new is h k =
     ∙ ap (λ ps. mid ++ (breaches_of all demand (param_uses n ps) ++ os)) is
     ∙ ap (λ xs. xs ++ (breaches_of all demand (param_uses n (without_writer method.params)) ++ os)) h
     ∙ append_assoc old (bs ++ rs) (breaches_of all demand (param_uses n (without_writer method.params)) ++ os)
-    ∙ ap (λ xs. old ++ xs) (sym (of_signature all demand (Using Borrow) (Using Counting) Returning (borrow_uses (receiver_borrow method.self_param)) (receiver_uses n method.self_param)
+    ∙ ap (λ xs. old ++ xs) (sym (of_signature all demand (Usual (Using Borrow)) (Usual (Using Counting)) (Usual Returning) (borrow_uses (receiver_borrow method.self_param)) (receiver_uses n method.self_param)
     (param_uses n (without_writer method.params)) (output_uses n method.return_type)))
 
 -- of a function
@@ -72,7 +72,7 @@ pub function_told : (n : Naming) (all : List (List ℕ)) (demand : Demand) (func
 function_told n all demand function params old new is k =
     k
     ∙ ap (λ ps. old ++ (breaches_of all demand (param_uses n ps) ++ breaches_of all demand (output_uses n function.output_type))) is
-    ∙ ap (λ xs. old ++ xs) (sym (of_signature all demand (Using Borrow) (Using Counting) Returning [] [] (param_uses n (without_writer function.params)) (output_uses n function.output_type)))
+    ∙ ap (λ xs. old ++ xs) (sym (of_signature all demand (Usual (Using Borrow)) (Usual (Using Counting)) (Usual Returning) [] [] (param_uses n (without_writer function.params)) (output_uses n function.output_type)))
 
 -- of fields
 pub fields_told : (n : Naming) (all : List (List ℕ)) (demand : Demand) (fields given : List Field) (old new : List Broken) → given ≡ fields
@@ -81,4 +81,4 @@ pub fields_told : (n : Naming) (all : List (List ℕ)) (demand : Demand) (fields
 fields_told n all demand fields given old new is k =
     k
     ∙ ap (λ fs. old ++ breaches_of all demand (flat_map (λ (field : Field). type_uses n field.ty) fs)) is
-    ∙ ap (λ xs. old ++ xs) (sym (of_placed all demand Defining (flat_map (λ (field : Field). type_uses n field.ty) fields)))
+    ∙ ap (λ xs. old ++ xs) (sym (of_placed all demand (Usual Defining) (flat_map (λ (field : Field). type_uses n field.ty) fields)))

@@ -16,21 +16,21 @@ use Rattle.bridge_ast.specs.declared.place.ItemPlace.{ItemPlace}
 use Rattle.hir_elide.specs.declared.fault.ElideFault.TheVariants as elide
 use Rattle.hir_elide.specs.Numbering.{most}
 use Rattle.hir_elide.specs.Occurrences.{Borrow, Counting}
-use Rattle.hir_elide.specs.Phases.{Phase, Using}
+use Rattle.hir_elide.specs.Phases.{Using}
 use Rattle.hir_number.specs.declared.fault.NumberFault.{NumberFault}
 use Rattle.hir_number.specs.declared.fault.NumberFault.TheVariants as fault
 use Rattle.hir_number.specs.Breaches.{Anything, At, Broken, Demand, Equal, LifetimeArity, LifetimeUnknown, Nothing, arity_breaches, breaches_of, field_breaches, function_breaches, method_breaches, self_breaches, trait_method_breaches, unknown, use_breaches, uses_of}
 use Rattle.hir_number.specs.Faults.{IsOfElision, FaultTold}
 use Rattle.hir_number.specs.Naming.{Naming}
 use Rattle.hir_number.specs.Numbers.{all_answers, answers, signature_numbers}
-use Rattle.hir_number.specs.Signatures.{Placed, field_uses, function_uses, method_uses, output_uses, param_uses, placed, trait_borrow, trait_method_uses, trait_receiver_uses}
+use Rattle.hir_number.specs.Signatures.{Section, Placed, TraitReturn, Usual, field_uses, function_uses, method_uses, output_uses, param_uses, placed, trait_borrow, trait_method_uses, trait_receiver_uses}
 use Rattle.hir_number.specs.Uses.{Use, One, Path, borrow_uses, type_use}
 use Rattle.hir_number.proofs.FaultLemmas.{Each, FineBy, IsKnown, OfElision, PlacedFine, UseFine, answers_fine, each_both}
 
 elision : OfElision IsOfElision
 elision = record { anonymous = tt; no_source = tt; ambiguous = tt; too_many = tt }
 
-none_of : {A : Type 0} (xs ys : List A) → xs ++ ys ≡ [] → (xs ≡ []) × (ys ≡ [])
+pub none_of : {A : Type 0} (xs ys : List A) → xs ++ ys ≡ [] → (xs ≡ []) × (ys ≡ [])
 none_of [] ys h = (refl, h)
 none_of (x ∷ xs) ys h = absurd cc
 
@@ -53,7 +53,7 @@ module _ (names : List (List ℕ)) where
       let parts = none_of (unknown names l) (flat_map (unknown names) ls) h in
       (lifetime_known l parts.0, each_known ls parts.1)
 
-  few : (b : Bool) (path : PathType) → (if b then LifetimeArity path ∷ [] else []) ≡ [] → ¬ (b ≡ true)
+  pub few : (b : Bool) (path : PathType) → (if b then LifetimeArity path ∷ [] else []) ≡ [] → ¬ (b ≡ true)
   few true path h k = absurd cc
   few false path h k = cc
 
@@ -81,9 +81,9 @@ module _ (names : List (List ℕ)) where
   placed_fine [] h = tt
   placed_fine (p ∷ ps) h = (h.0, placed_fine ps h.1)
 
-  part_fine : (phase : Phase) (us : List Use) → Each (UseFine IsOfElision elision names) us → Each (PlacedFine IsOfElision elision names) (placed phase us)
-  part_fine phase [] h = tt
-  part_fine phase (u ∷ us) h = (h.0, part_fine phase us h.1)
+  part_fine : (part : Section) (us : List Use) → Each (UseFine IsOfElision elision names) us → Each (PlacedFine IsOfElision elision names) (placed part us)
+  part_fine part [] h = tt
+  part_fine part (u ∷ us) h = (h.0, part_fine part us h.1)
 
   each_parts : {A : Type 0} (P : A → Type 0) (xs ys : List A) → Each P (xs ++ ys) → Each P xs × Each P ys
   each_parts P [] ys h = (tt, h)
@@ -136,17 +136,17 @@ fields_elided names item result none =
     (placed_fine (lifetime_names item.lifetimes) (field_uses names item.fields) (uses_fine (lifetime_names item.lifetimes) Anything (uses_of (field_uses names item.fields)) none))
 
 trait_fine : (all : List (List ℕ)) (owner : ItemPlace) (bs rs ps os : List Use) → breaches_of all (At owner) (bs ++ rs) ++ breaches_of all Nothing (ps ++ os) ≡ []
-    → Each (PlacedFine IsOfElision elision all) ((placed (Using Borrow) bs ++ placed (Using Counting) (rs ++ ps)) ++ placed (Using Counting) os)
+    → Each (PlacedFine IsOfElision elision all) ((placed (Usual (Using Borrow)) bs ++ placed (Usual (Using Counting)) (rs ++ ps)) ++ placed TraitReturn os)
 trait_fine all owner bs rs ps os none =
     let P : Use → Type 0 = UseFine IsOfElision elision all in
     let Q : Placed → Type 0 = PlacedFine IsOfElision elision all in
     let parts = none_of (breaches_of all (At owner) (bs ++ rs)) (breaches_of all Nothing (ps ++ os)) none in
     let first = each_parts all P bs rs (uses_fine all (At owner) (bs ++ rs) parts.0) in
     let last = each_parts all P ps os (uses_fine all Nothing (ps ++ os) parts.1) in
-    each_both Q (placed (Using Borrow) bs ++ placed (Using Counting) (rs ++ ps)) (placed (Using Counting) os)
-    (each_both Q (placed (Using Borrow) bs) (placed (Using Counting) (rs ++ ps)) (part_fine all (Using Borrow) bs first.0)
-    (part_fine all (Using Counting) (rs ++ ps) (each_both P rs ps first.1 last.0)))
-    (part_fine all (Using Counting) os last.1)
+    each_both Q (placed (Usual (Using Borrow)) bs ++ placed (Usual (Using Counting)) (rs ++ ps)) (placed TraitReturn os)
+    (each_both Q (placed (Usual (Using Borrow)) bs) (placed (Usual (Using Counting)) (rs ++ ps)) (part_fine all (Usual (Using Borrow)) bs first.0)
+    (part_fine all (Usual (Using Counting)) (rs ++ ps) (each_both P rs ps first.1 last.0)))
+    (part_fine all TraitReturn os last.1)
 
 pub trait_method_elided : {A : Type 0} (names : Naming) (owner : ItemPlace) (method : TraitMethod) (result : Result A NumberFault) → trait_method_breaches names owner method ≡ []
     → IfErr result (λ e. FaultTold method.lifetimes e (signature_numbers method.lifetimes (trait_method_uses names method))) → IfErr result IsOfElision

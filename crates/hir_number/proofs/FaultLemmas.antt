@@ -13,15 +13,15 @@ use Rattle.hir_elide.specs.Elision.{elided_by}
 use Rattle.hir_elide.specs.Generics.{all_or_fault, filled, lowered_generics, own_numbers, with_first}
 use Rattle.hir_elide.specs.Numbering.{Number, lifetime_number, lifetime_numbers, most, name_number, one_if_anonymous, within_most}
 use Rattle.hir_elide.specs.Occurrences.{Occurrence, Own, Role, Signature, count_of, is_borrow, is_counting, is_own, numbers_with, used_as}
-use Rattle.hir_elide.specs.Phases.{Phase, Using, Returning, Defining, defined, lowered, lowered_each, occurring, returned}
+use Rattle.hir_elide.specs.Phases.{Phase, Using, Returning, Defining, defined, lowered, lowered_each, returned}
 use Rattle.hir_life.specs.declared.maybe_static.MaybeStatic.{MaybeStatic}
 use Rattle.hir_life.specs.declared.maybe_static.MaybeStatic.TheVariants.{NonStatic}
 use Rattle.hir_number.specs.declared.fault.NumberFault.{NumberFault}
 use Rattle.hir_number.specs.declared.fault.NumberFault.TheVariants as fault
 use Rattle.hir_number.specs.Faults.{of_elided}
 use Rattle.hir_number.specs.Numbers.{Answer, all_answers, answers, use_answer, with_answer}
-use Rattle.hir_number.specs.Occurrences.{has_own, is_own_use, own_occurrences, path_occurrences, returned_occurrences, signature_with, use_occurrences}
-use Rattle.hir_number.specs.Signatures.{Placed}
+use Rattle.hir_number.specs.Occurrences.{Elides, Appearance, AppearanceRole, Neither, elide_occurrence, appearing, has_own, is_own_use, occurrences, own_occurrences, path_occurrences, returned_occurrences, signature_with, use_occurrences}
+use Rattle.hir_number.specs.Signatures.{Placed, TraitReturn, Usual, phase_of}
 use Rattle.hir_number.specs.Uses.{Use, One, Path, lifetimes_used}
 
 -- a fault that a use can have: none of a declared name, and no want of memory
@@ -185,36 +185,45 @@ module _ (P : NumberFault → Type 0) (ok : OfElision P) where
   used_known names (Path is_self path None) h = h.1
   used_known names (Path is_self path (Some found)) h = filled_fine names path.lifetimes found.count h.1
 
-  occurring_known : (names : List (List ℕ)) (role : Role) (ls : List Lifetime) → Each (IsKnown names) ls → Each (OccursKnown names) (occurring role ls)
+  -- one that occurs in a role
+  abbrev AppearanceKnown : List (List ℕ) → Appearance → Type 0
+  AppearanceKnown names e = IsKnown names e.lifetime
+
+  occurring_known : (names : List (List ℕ)) (role : AppearanceRole) (ls : List Lifetime) → Each (IsKnown names) ls → Each (AppearanceKnown names) (appearing role ls)
   occurring_known names role [] h = tt
   occurring_known names role (l ∷ ls) h = (h.0, occurring_known names role ls h.1)
 
-  own_known : (names : List (List ℕ)) (met : Bool) (ls : List Lifetime) → Each (IsKnown names) ls → Each (OccursKnown names) (own_occurrences met ls)
+  own_known : (names : List (List ℕ)) (met : Bool) (ls : List Lifetime) → Each (IsKnown names) ls → Each (AppearanceKnown names) (own_occurrences met ls)
   own_known names true ls h = tt
-  own_known names false ls h = occurring_known names Own ls h
+  own_known names false ls h = occurring_known names (Elides Own) ls h
 
-  path_known : (names : List (List ℕ)) (is_self met : Bool) (role : Role) (ls : List Lifetime) → Each (IsKnown names) ls → Each (OccursKnown names) (path_occurrences is_self met role ls)
+  path_known : (names : List (List ℕ)) (is_self met : Bool) (role : AppearanceRole) (ls : List Lifetime) → Each (IsKnown names) ls → Each (AppearanceKnown names) (path_occurrences is_self met role ls)
   path_known names true met role ls h = own_known names met ls h
   path_known names false met role ls h = occurring_known names role ls h
 
-  returned_known : (names : List (List ℕ)) (is_self met : Bool) (ls : List Lifetime) → Each (IsKnown names) ls → Each (OccursKnown names) (returned_occurrences is_self met ls)
+  returned_known : (names : List (List ℕ)) (is_self met : Bool) (ls : List Lifetime) → Each (IsKnown names) ls → Each (AppearanceKnown names) (returned_occurrences is_self met ls)
   returned_known names true met ls h = own_known names met ls h
   returned_known names false met ls h = tt
 
-  use_known : (names : List (List ℕ)) (met : Bool) (p : Placed) → UseFine names p.1 → Each (OccursKnown names) (use_occurrences met p)
-  use_known names met (Using role, u) h = path_known names (is_own_use u) met role (lifetimes_used u) (used_known names u h)
-  use_known names met (Returning, u) h = returned_known names (is_own_use u) met (lifetimes_used u) (used_known names u h)
-  use_known names met (Defining, u) h = tt
+  use_known : (names : List (List ℕ)) (met : Bool) (p : Placed) → UseFine names p.1 → Each (AppearanceKnown names) (use_occurrences met p)
+  use_known names met (Usual (Using role), u) h = path_known names (is_own_use u) met (Elides role) (lifetimes_used u) (used_known names u h)
+  use_known names met (Usual Returning, u) h = returned_known names (is_own_use u) met (lifetimes_used u) (used_known names u h)
+  use_known names met (Usual Defining, u) h = tt
+  use_known names met (TraitReturn, u) h = path_known names (is_own_use u) met Neither (lifetimes_used u) (used_known names u h)
 
   abbrev pub PlacedFine : List (List ℕ) → Placed → Type 0
   PlacedFine names p = UseFine names p.1
 
   occurrences_known : (names : List (List ℕ)) (before ps : List Placed) → Each (PlacedFine names) ps
-      → Each (OccursKnown names) (each_after (λ b p. use_occurrences (has_own b) p) before ps)
+      → Each (AppearanceKnown names) (each_after (λ b p. use_occurrences (has_own b) p) before ps)
   occurrences_known names before [] h = tt
   occurrences_known names before (p ∷ ps) h =
-      each_both (OccursKnown names) (use_occurrences (has_own before) p) (each_after (λ b q. use_occurrences (has_own b) q) (before ++ p ∷ []) ps)
+      each_both (AppearanceKnown names) (use_occurrences (has_own before) p) (each_after (λ b q. use_occurrences (has_own b) q) (before ++ p ∷ []) ps)
       (use_known names (has_own before) p h.0) (occurrences_known names (before ++ p ∷ []) ps h.1)
+
+  told_known : (names : List (List ℕ)) (es : List Appearance) → Each (AppearanceKnown names) es → Each (OccursKnown names) (map elide_occurrence es)
+  told_known names [] h = tt
+  told_known names (e ∷ es) h = (h.0, told_known names es h.1)
 
   -- ---- answers
 
@@ -228,10 +237,10 @@ module _ (P : NumberFault → Type 0) (ok : OfElision P) where
   all_answers_fine (Err e ∷ rs) h = h.0
 
   after_fine : (declared : LifetimeEnv) (before ps : List Placed) → Each (PlacedFine (lifetime_names declared)) before → Each (PlacedFine (lifetime_names declared)) ps
-      → Each (FineBy P) (each_after (λ b p. use_answer p.0 (signature_with declared b) p.1 ∷ []) before ps)
+      → Each (FineBy P) (each_after (λ b p. use_answer (phase_of p.0) (signature_with declared b) p.1 ∷ []) before ps)
   after_fine declared before [] h k = tt
   after_fine declared before (p ∷ ps) h k = (
-    use_fine p.0 (signature_with declared before) p.1 (occurrences_known (lifetime_names declared) [] before h) k.0,
+    use_fine (phase_of p.0) (signature_with declared before) p.1 (told_known (lifetime_names declared) (occurrences before) (occurrences_known (lifetime_names declared) [] before h)) k.0,
     after_fine declared (before ++ p ∷ []) ps (each_both (PlacedFine (lifetime_names declared)) before (p ∷ []) h (k.0, tt)) k.1,
   )
 

@@ -11,3 +11,4 @@ pub mod BreachLemmas
 pub mod ElisionLemmas
 pub mod TypeLemmas
 pub mod WithinLemmas
+pub mod RoleLemmas

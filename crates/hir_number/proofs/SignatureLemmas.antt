@@ -22,7 +22,7 @@ use Rattle.hir_number.specs.declared.trait_methods.NumberedTraitMethod.{Numbered
 use Rattle.hir_number.specs.Naming.{Naming, trait_found, type_found}
 use Rattle.hir_number.specs.Numbered.{numbers_of, numbers_of_each, output_numbers, receiver_numbers, receiver_shape, target_of, trait_numbers_of, trait_receiver_numbers, trait_receiver_shape, trait_target_of}
 use Rattle.hir_number.specs.Shapes.{NumberLists, bare, bare_borrow, bare_target, bare_trait, borrow_numbers, borrow_shape, numbers_in, shape}
-use Rattle.hir_number.specs.Signatures.{Placed, output_uses, param_uses, placed, receiver_borrow, receiver_uses, signature_uses, trait_borrow, trait_receiver_uses}
+use Rattle.hir_number.specs.Signatures.{Section, Placed, TraitReturn, Usual, output_uses, param_uses, phase_of, placed, receiver_borrow, receiver_uses, signature_uses, trait_borrow, trait_receiver_uses}
 use Rattle.hir_number.specs.Uses.{Use, borrow_uses, type_uses}
 use Rattle.hir_number.specs.inside.Runs.{finished, inputs_run, output_run, params_run, receiver_run, returned_run, signature_run, trait_inputs_run, trait_method_run, trait_receiver_run}
 use Rattle.hir_number.specs.inside.Threads.{Run, ◌>>◌, borrow_run, given, in_order, path_run, trait_run, type_run, run_next}
@@ -32,12 +32,12 @@ use Rattle.hir_number.proofs.UsesLemmas.{FlatBy, Flat, assoc, flat_borrow, flat_
 
 -- ---- numbers
 
-placed_same : (phase : Phase) (us : List Use) → map placed_run (placed phase us) ≡ map (use_run phase) us
-placed_same phase [] = refl
-placed_same phase (u ∷ us) = ap (λ rs. use_run phase u ∷ rs) (placed_same phase us)
+placed_same : (part : Section) (us : List Use) → map placed_run (placed part us) ≡ map (use_run (phase_of part)) us
+placed_same part [] = refl
+placed_same part (u ∷ us) = ap (λ rs. use_run (phase_of part) u ∷ rs) (placed_same part us)
 
-pub flat_placed : {A : Type 0} (phase : Phase) (of : A → NumberLists) (run : Run A) (us : List Use) → Flat phase of run us → FlatBy placed_run of run (placed phase us)
-flat_placed phase of run us flat s = ap (λ rs. in_order rs s) (placed_same phase us) ∙ flat s
+pub flat_placed : {A : Type 0} (part : Section) (of : A → NumberLists) (run : Run A) (us : List Use) → Flat (phase_of part) of run us → FlatBy placed_run of run (placed part us)
+flat_placed part of run us flat s = ap (λ rs. in_order rs s) (placed_same part us) ∙ flat s
 
 -- three parts, one after another
 flat_three : {A B C D : Type 0} (of : A → NumberLists) (of' : B → NumberLists) (of'' : C → NumberLists) (all : D → NumberLists) (run : Run A) (run' : Run B) (run'' : Run C) (make : A → B → C → D)
@@ -99,29 +99,29 @@ module _ (names : Naming) where
 
   pub flat_signature : (receiver : Option SelfParam) (params : List Param) (output : Option TypeName)
       → FlatBy placed_run numbers_of (signature_run names receiver params output)
-      (signature_uses (receiver_borrow receiver) (receiver_uses names receiver ++ param_uses names params) Returning (output_uses names output))
+      (signature_uses (receiver_borrow receiver) (receiver_uses names receiver ++ param_uses names params) (Usual Returning) (output_uses names output))
   flat_signature receiver params output =
       flat_three borrow_numbers (λ (i : Option Target × List NumberedType). receiver_numbers i.0 ++ numbers_of_each i.1) (λ (r : Option NumberedType × Environment). output_numbers r.0) numbers_of
       (borrow_run (Using Borrow) (receiver_borrow receiver)) (inputs_run (Using Counting) names receiver params) (returned_run Returning names output)
       (λ borrow inputs returned. record { borrow = borrow; own = inputs.0; params = inputs.1; output = returned.0; lifetimes = returned.1 })
-      (placed (Using Borrow) (borrow_uses (receiver_borrow receiver))) (placed (Using Counting) (receiver_uses names receiver ++ param_uses names params)) (placed Returning (output_uses names output))
-      (flat_placed (Using Borrow) borrow_numbers _ (borrow_uses (receiver_borrow receiver)) (flat_borrow (Using Borrow) (receiver_borrow receiver)))
-      (flat_placed (Using Counting) _ _ (receiver_uses names receiver ++ param_uses names params) (flat_inputs (Using Counting) receiver params))
-      (flat_placed Returning _ _ (output_uses names output) (flat_returned Returning output))
+      (placed (Usual (Using Borrow)) (borrow_uses (receiver_borrow receiver))) (placed (Usual (Using Counting)) (receiver_uses names receiver ++ param_uses names params)) (placed (Usual Returning) (output_uses names output))
+      (flat_placed (Usual (Using Borrow)) borrow_numbers _ (borrow_uses (receiver_borrow receiver)) (flat_borrow (Using Borrow) (receiver_borrow receiver)))
+      (flat_placed (Usual (Using Counting)) _ _ (receiver_uses names receiver ++ param_uses names params) (flat_inputs (Using Counting) receiver params))
+      (flat_placed (Usual Returning) _ _ (output_uses names output) (flat_returned Returning output))
       (λ borrow inputs returned. refl)
 
   pub flat_trait_method : (method : TraitMethod)
       → FlatBy placed_run trait_numbers_of (trait_method_run names method)
-      (signature_uses (trait_borrow method.self_param) (trait_receiver_uses names method.self_param ++ param_uses names method.params) (Using Counting) (output_uses names method.output_type))
+      (signature_uses (trait_borrow method.self_param) (trait_receiver_uses names method.self_param ++ param_uses names method.params) TraitReturn (output_uses names method.output_type))
   flat_trait_method method =
       flat_three borrow_numbers (λ (i : Option TraitTarget × List NumberedType). trait_receiver_numbers i.0 ++ numbers_of_each i.1) (λ (r : Option NumberedType × Environment). output_numbers r.0) trait_numbers_of
       (borrow_run (Using Borrow) (trait_borrow method.self_param)) (trait_inputs_run (Using Counting) names method) (returned_run (Using Counting) names method.output_type)
       (λ borrow inputs returned. record { borrow = borrow; own = inputs.0; params = inputs.1; output = returned.0; lifetimes = returned.1 })
-      (placed (Using Borrow) (borrow_uses (trait_borrow method.self_param))) (placed (Using Counting) (trait_receiver_uses names method.self_param ++ param_uses names method.params))
-      (placed (Using Counting) (output_uses names method.output_type))
-      (flat_placed (Using Borrow) borrow_numbers _ (borrow_uses (trait_borrow method.self_param)) (flat_borrow (Using Borrow) (trait_borrow method.self_param)))
-      (flat_placed (Using Counting) _ _ (trait_receiver_uses names method.self_param ++ param_uses names method.params) (flat_trait_inputs (Using Counting) method))
-      (flat_placed (Using Counting) _ _ (output_uses names method.output_type) (flat_returned (Using Counting) method.output_type))
+      (placed (Usual (Using Borrow)) (borrow_uses (trait_borrow method.self_param))) (placed (Usual (Using Counting)) (trait_receiver_uses names method.self_param ++ param_uses names method.params))
+      (placed TraitReturn (output_uses names method.output_type))
+      (flat_placed (Usual (Using Borrow)) borrow_numbers _ (borrow_uses (trait_borrow method.self_param)) (flat_borrow (Using Borrow) (trait_borrow method.self_param)))
+      (flat_placed (Usual (Using Counting)) _ _ (trait_receiver_uses names method.self_param ++ param_uses names method.params) (flat_trait_inputs (Using Counting) method))
+      (flat_placed TraitReturn _ _ (output_uses names method.output_type) (flat_returned (Using Counting) method.output_type))
       (λ borrow inputs returned. refl)
 
 -- ---- what comes, with what then stands

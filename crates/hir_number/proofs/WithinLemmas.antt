@@ -11,7 +11,6 @@ use Rattle.bridge_decl.specs.Lifetimes.{lifetime_names}
 use Rattle.bridge_text.specs.NameIndex.{number_of}
 use Rattle.bridge_text.proofs.NameIndexLemmas.{number_of_some}
 use Rattle.bridge_ast.specs.Each.{each_after}
-use Rattle.bridge_ast.proofs.EachLemmas.{each-push}
 use Rattle.hir_elide.specs.declared.fault.ElideFault.{ElideFault}
 use Rattle.hir_elide.specs.declared.fault.ElideFault.TheVariants as elide
 use Rattle.hir_elide.specs.Elision.{elided_by}
@@ -29,11 +28,12 @@ use Rattle.hir_number.specs.declared.fault.NumberFault.TheVariants as fault
 use Rattle.hir_number.specs.Faults.{of_elided}
 use Rattle.hir_number.specs.Numbered.{AreWithin, IsWithin}
 use Rattle.hir_number.specs.Numbers.{Answer, all_answers, answers, signature_numbers, use_answer, with_answer}
-use Rattle.hir_number.specs.Occurrences.{has_own, occurrences, signature_with, use_occurrences}
-use Rattle.hir_number.specs.Signatures.{Placed}
+use Rattle.hir_number.specs.Occurrences.{has_own, signature_with}
+use Rattle.hir_number.specs.Signatures.{Placed, phase_of}
 use Rattle.hir_number.specs.Uses.{One, Path}
 use Rattle.hir_number.proofs.FaultLemmas.{Each}
-use Rattle.hir_number.proofs.FlatLemmas.{grows, made, one_grows, path_grows}
+use Rattle.hir_number.proofs.FlatLemmas.{grows, made, one_grows, path_grows, told, told_push}
+use Rattle.hir_number.proofs.RoleLemmas.{use_told}
 
 -- ---- lists
 
@@ -200,28 +200,30 @@ module _ (declared : LifetimeEnv) where
   abbrev counted : List Placed → ℕ
   counted ps = count_of (signature_with declared ps)
 
-  use_holds : (before : List Placed) (p : Placed) → Holds (count_of (signature_with declared (before ++ p ∷ []))) (use_answer p.0 (signature_with declared before) p.1)
-  use_holds before (phase, One l) =
+  use_holds : (before : List Placed) (p : Placed) → Holds (count_of (signature_with declared (before ++ p ∷ []))) (use_answer (phase_of p.0) (signature_with declared before) p.1)
+  use_holds before (part, One l) =
+      let phase : Phase = phase_of part in
       subst (λ t. Holds (count_of t) (use_answer phase (signature_with declared before) (One l)))
-      (one_grows declared (occurrences before) (has_own before) phase l ∙ grows declared before (phase, One l))
+      (one_grows declared (told before) (has_own before) phase l ∙ grows declared before (part, One l))
       (all_hold (count_of (with_uses phase (signature_with declared before) (l ∷ []))) (lowered phase (signature_with declared before) l ∷ []) (lowered_below (signature_with declared before) phase l, tt))
-  use_holds before (phase, Path is_self path None) = tt
-  use_holds before (phase, Path is_self path (Some found)) =
+  use_holds before (part, Path is_self path None) = tt
+  use_holds before (part, Path is_self path (Some found)) =
+      let phase : Phase = phase_of part in
       let ls : List Lifetime = filled path.lifetimes found.count in
       let s : Signature = signature_with declared before in
       subst (λ t. Holds (count_of t) (use_answer phase s (Path is_self path (Some found))))
-      (path_grows declared (occurrences before) (has_own before) is_self phase path found ∙ grows declared before (phase, Path is_self path (Some found)))
+      (path_grows declared (told before) (has_own before) is_self phase path found ∙ grows declared before (part, Path is_self path (Some found)))
       (arity_holds (count_of (with_generics phase is_self s ls)) (nat_lt found.count (length path.lifetimes)) (of_elided (all_or_fault (lowered_generics phase is_self s ls)))
-      (all_hold (count_of (with_generics phase is_self s ls)) (lowered_generics phase is_self s ls) (generics_below declared (occurrences before) (has_own before) is_self phase ls)))
+      (all_hold (count_of (with_generics phase is_self s ls)) (lowered_generics phase is_self s ls) (generics_below declared (told before) (has_own before) is_self phase ls)))
 
   step_grows : (before : List Placed) (p : Placed) → counted before ≤ counted (before ++ p ∷ [])
   step_grows before p =
       let f : Occurrence → Lifetime = λ o. o.lifetime in
-      let more : List Occurrence = use_occurrences (has_own before) p in
+      let more : List Occurrence = use_told (has_own before) (phase_of p.0) p.1 in
       let same : counted (before ++ p ∷ []) ≡ count_after (counted before) (map f more) =
-      ap (λ os. count_after (length declared.nodes) (map f os)) (each-push (λ (b : List Placed) (q : Placed). use_occurrences (has_own b) q) before p)
-      ∙ ap (count_after (length declared.nodes)) (map-append f (occurrences before) more)
-      ∙ count_more (length declared.nodes) (map f (occurrences before)) (map f more) in
+      ap (λ os. count_after (length declared.nodes) (map f os)) (told_push before p)
+      ∙ ap (count_after (length declared.nodes)) (map-append f (told before) more)
+      ∙ count_more (length declared.nodes) (map f (told before)) (map f more) in
       subst (λ c. counted before ≤ c) (sym same) (count_grows (counted before) (map f more))
 
   all_grow : (before ps : List Placed) → counted before ≤ counted (before ++ ps)
@@ -231,13 +233,13 @@ module _ (declared : LifetimeEnv) where
       let rest : counted (before ++ p ∷ []) ≤ counted (before ++ p ∷ ps) = subst (λ qs. counted (before ++ p ∷ []) ≤ counted qs) (append_assoc before (p ∷ []) ps) (all_grow (before ++ p ∷ []) ps) in
       omega (arith, one, rest)
 
-  answers_hold : (before ps : List Placed) → Each (Holds (counted (before ++ ps))) (each_after (λ b p. use_answer p.0 (signature_with declared b) p.1 ∷ []) before ps)
+  answers_hold : (before ps : List Placed) → Each (Holds (counted (before ++ ps))) (each_after (λ b p. use_answer (phase_of p.0) (signature_with declared b) p.1 ∷ []) before ps)
   answers_hold before [] = tt
   answers_hold before (p ∷ ps) = (
     holds_more (counted (before ++ p ∷ [])) (counted (before ++ p ∷ ps))
         (subst (λ qs. counted (before ++ p ∷ []) ≤ counted qs) (append_assoc before (p ∷ []) ps) (all_grow (before ++ p ∷ []) ps))
-        (use_answer p.0 (signature_with declared before) p.1) (use_holds before p),
-    subst (λ qs. Each (Holds (counted qs)) (each_after (λ b q. use_answer q.0 (signature_with declared b) q.1 ∷ []) (before ++ p ∷ []) ps)) (append_assoc before (p ∷ []) ps)
+        (use_answer (phase_of p.0) (signature_with declared before) p.1) (use_holds before p),
+    subst (λ qs. Each (Holds (counted qs)) (each_after (λ b q. use_answer (phase_of q.0) (signature_with declared b) q.1 ∷ []) (before ++ p ∷ []) ps)) (append_assoc before (p ∷ []) ps)
         (answers_hold (before ++ p ∷ []) ps),
   )
 

@@ -12,7 +12,7 @@ use Rattle.hir_number.specs.declared.fault.NumberFault.{NumberFault}
 use Rattle.hir_number.specs.declared.fault.NumberFault.TheVariants as fault
 use Rattle.hir_number.specs.Faults.{of_elided}
 use Rattle.hir_number.specs.Occurrences.{signature_with}
-use Rattle.hir_number.specs.Signatures.{Placed}
+use Rattle.hir_number.specs.Signatures.{Placed, phase_of}
 use Rattle.hir_number.specs.Uses.{Use, One, Path}
 
 -- the numbers of a use's lifetimes, or what is broken
@@ -29,7 +29,7 @@ use_answer phase s (Path is_self path (Some found)) =
 
 -- the answer of each use: in `fn f(&self, x: &'a O, y: &O) -> &O` these are 1, 0, 2 and 1, where `'a` is declared
 abbrev pub answers : LifetimeEnv → List Placed → List Answer
-answers declared ps = each (λ before p. use_answer p.0 (signature_with declared before) p.1 ∷ []) ps
+answers declared ps = each (λ before p. use_answer (phase_of p.0) (signature_with declared before) p.1 ∷ []) ps
 
 -- what there is before these, or their fault
 abbrev pub with_answer : {A : Type 0} → A → Result (List A) NumberFault → Result (List A) NumberFault

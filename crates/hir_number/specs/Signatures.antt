@@ -43,13 +43,26 @@ without_writer (param ∷ next ∷ params) = param ∷ without_writer (next ∷ 
 
 -- ---- uses
 
+-- a part of a signature or of a definition
+pub data Section : Type 0 where
+  -- one in which lifetimes are lowered so
+  Usual : Phase → Section
+  -- the return of a trait's method
+  TraitReturn : Section
+
+-- how lifetimes are lowered in a part: nothing is elided in the return of a trait's method, and each anonymous lifetime in it is
+-- a new one
+abbrev pub phase_of : Section → Phase
+phase_of (Usual phase) = phase
+phase_of TraitReturn = Using Counting
+
 -- a use with the part of the signature in which it stands
 abbrev pub Placed : Type 0
-Placed = Phase × Use
+Placed = Section × Use
 
 -- uses in one part
-abbrev pub placed : Phase → List Use → List Placed
-placed phase us = map (λ u. (phase, u)) us
+abbrev pub placed : Section → List Use → List Placed
+placed part us = map (λ u. (part, u)) us
 
 -- those of a receiver's borrow
 abbrev pub receiver_borrow : Option SelfParam → Option (Lifetime × Mutability)
@@ -80,30 +93,30 @@ output_uses names None = []
 output_uses names (Some ty) = type_uses names ty
 
 -- those of a signature, by its parts
-abbrev pub signature_uses : Option (Lifetime × Mutability) → List Use → Phase → List Use → List Placed
-signature_uses borrow inputs phase outputs =
-    (placed (Using Borrow) (borrow_uses borrow) ++ placed (Using Counting) inputs) ++ placed phase outputs
+abbrev pub signature_uses : Option (Lifetime × Mutability) → List Use → Section → List Use → List Placed
+signature_uses borrow inputs part outputs =
+    (placed (Usual (Using Borrow)) (borrow_uses borrow) ++ placed (Usual (Using Counting)) inputs) ++ placed part outputs
 
 -- those of a method
 abbrev pub method_uses : Naming → Method → List Placed
 method_uses names method =
     signature_uses (receiver_borrow method.self_param)
-    (receiver_uses names method.self_param ++ param_uses names (without_writer method.params)) Returning
+    (receiver_uses names method.self_param ++ param_uses names (without_writer method.params)) (Usual Returning)
     (output_uses names method.return_type)
 
 -- those of a function
 abbrev pub function_uses : Naming → Function → List Placed
 function_uses names function =
-    signature_uses None (param_uses names (without_writer function.params)) Returning
+    signature_uses None (param_uses names (without_writer function.params)) (Usual Returning)
     (output_uses names function.output_type)
 
--- those of a trait's method: nothing in it is elided, and each anonymous lifetime of its return is a new one
+-- those of a trait's method
 abbrev pub trait_method_uses : Naming → TraitMethod → List Placed
 trait_method_uses names method =
     signature_uses (trait_borrow method.self_param)
-    (trait_receiver_uses names method.self_param ++ param_uses names method.params) (Using Counting)
+    (trait_receiver_uses names method.self_param ++ param_uses names method.params) TraitReturn
     (output_uses names method.output_type)
 
 -- those of the fields of a struct
 abbrev pub field_uses : Naming → List Field → List Placed
-field_uses names fields = placed Defining (flat_map (λ field. type_uses names field.ty) fields)
+field_uses names fields = placed (Usual Defining) (flat_map (λ field. type_uses names field.ty) fields)
