@@ -12,3 +12,6 @@ pub mod ElisionLemmas
 pub mod TypeLemmas
 pub mod WithinLemmas
 pub mod RoleLemmas
+pub mod ArityLemmas
+pub mod NamedLemmas
+pub mod FitLemmas

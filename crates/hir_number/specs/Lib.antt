@@ -1,3 +1,4 @@
+pub mod Arity
 pub mod Breaches
 pub mod Faults
 pub mod Naming

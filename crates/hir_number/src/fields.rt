@@ -4,10 +4,11 @@ ghost use Rattle.std.specs.Prelude.{◌≡◌, [], ⊤, ◌<◌, length, IfErr, 
 ghost use Rattle.bridge_decl.specs.Lifetimes.{IsSoundEnvironment};
 ghost use Rattle.hir_elide.specs.Occurrences.{Signature};
 ghost use Rattle.hir_elide.specs.Phases.{Defining};
+ghost use Rattle.hir_number.specs.Arity.{HaveArity};
 ghost use Rattle.hir_number.specs.Breaches.{field_breaches};
 ghost use Rattle.hir_number.specs.Faults.{IsOfElision, FaultTold};
 ghost use Rattle.hir_number.specs.Naming.{IsNaming, Naming};
-ghost use Rattle.hir_number.specs.Numbered.{AreNumberedFields};
+ghost use Rattle.hir_number.specs.Numbered.{AreNumberedFields, numbers_of_each};
 ghost use Rattle.hir_number.specs.Numbers.{signature_numbers};
 ghost use Rattle.hir_number.specs.Signatures.{field_uses};
 ghost use Rattle.hir_number.specs.inside.Runs.{Starts, fields_run, whole_run};
@@ -77,6 +78,9 @@ pub fn number_fields(
         (signature_numbers item.now.lifetimes (field_uses names item.now.fields))) }
     ensures elision { (names : Naming) → IsNaming env.now number names
         → field_breaches names item.now ≡ [] → IfErr result IsOfElision }
+    ensures arity { (names : Naming) → IsNaming env.now number names
+        → field_breaches names item.now ≡ []
+        → IfOk result (λ n. HaveArity (field_uses names item.now.fields) (numbers_of_each n)) }
 {
     number_all_fields(alloc, env, number, item)
 }

@@ -38,7 +38,8 @@
 //! ([`NumberedType`]). The numbers of a use are a function of the declared names and of the uses before it (`specs/Numbers`); what is
 //! left out in a return is elided as `hir_elide` says. One recursion over types serves all: it is generic in the lowerer, so receivers,
 //! parameters, returns, fields and the methods of traits differ in that alone. What passed the tests is refused for elision, for a definition that
-//! leaves a lifetime out, for more than 4,095 lifetimes, or for want of memory, and for nothing else.
+//! leaves a lifetime out, for more than 4,095 lifetimes, or for want of memory, and for nothing else; and each path in it comes back with as many
+//! numbers as its definition declares lifetimes (`specs/Arity`).
 //!
 //! # What paths name
 //!

@@ -7,6 +7,7 @@ ghost use Rattle.hir_elide.specs.Occurrences.{Borrow, Signature};
 ghost use Rattle.hir_elide.specs.Phases.{Returning, Using};
 ghost use Rattle.hir_elide.specs.Signature.{begun};
 ghost use Rattle.bridge_ast.specs.declared.place.ItemPlace.{ItemPlace};
+ghost use Rattle.hir_number.specs.Arity.{HaveArity};
 ghost use Rattle.hir_number.specs.Breaches.{function_breaches, method_breaches};
 ghost use Rattle.hir_number.specs.Faults.{IsOfElision, FaultTold};
 ghost use Rattle.hir_number.specs.Numbered.{AreWithin, IsNumberedFunction, IsNumberedMethod, numbers_of};
@@ -246,6 +247,9 @@ pub fn number_method(
         (signature_numbers method.now.lifetime_env (method_uses names method.now))) }
     ensures elision { (names : Naming) (owner : ItemPlace) → IsNaming env.now number names
         → method_breaches names owner method.now ≡ [] → IfErr result IsOfElision }
+    ensures arity { (names : Naming) (owner : ItemPlace) → IsNaming env.now number names
+        → method_breaches names owner method.now ≡ []
+        → IfOk result (λ n. HaveArity (method_uses names method.now) (numbers_of n)) }
 {
     let params = before_writer(method.params.as_slice());
     let declared = &method.lifetime_env;
@@ -272,6 +276,9 @@ pub fn number_function(
         (signature_numbers function.now.lifetimes (function_uses names function.now))) }
     ensures elision { (names : Naming) → IsNaming env.now number names
         → function_breaches names function.now ≡ [] → IfErr result IsOfElision }
+    ensures arity { (names : Naming) → IsNaming env.now number names
+        → function_breaches names function.now ≡ []
+        → IfOk result (λ n. HaveArity (function_uses names function.now) (numbers_of n)) }
 {
     let params = before_writer(function.params.as_slice());
     let declared = &function.lifetimes;

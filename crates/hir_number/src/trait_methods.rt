@@ -7,6 +7,7 @@ ghost use Rattle.hir_elide.specs.Occurrences.{Counting, Signature};
 ghost use Rattle.hir_elide.specs.Phases.{Using};
 ghost use Rattle.hir_elide.specs.Signature.{begun};
 ghost use Rattle.bridge_ast.specs.declared.place.ItemPlace.{ItemPlace};
+ghost use Rattle.hir_number.specs.Arity.{HaveArity};
 ghost use Rattle.hir_number.specs.Breaches.{trait_method_breaches};
 ghost use Rattle.hir_number.specs.Faults.{IsOfElision, FaultTold};
 ghost use Rattle.hir_number.specs.Numbered.{AreWithin, IsNumberedTraitMethod, trait_numbers_of};
@@ -170,6 +171,9 @@ pub fn number_trait_method(
         (signature_numbers method.now.lifetimes (trait_method_uses names method.now))) }
     ensures elision { (names : Naming) (owner : ItemPlace) → IsNaming env.now number names
         → trait_method_breaches names owner method.now ≡ [] → IfErr result IsOfElision }
+    ensures arity { (names : Naming) (owner : ItemPlace) → IsNaming env.now number names
+        → trait_method_breaches names owner method.now ≡ []
+        → IfOk result (λ n. HaveArity (trait_method_uses names method.now) (trait_numbers_of n)) }
 {
     number_trait_signature(alloc, env, number, method)
 }

@@ -4,6 +4,7 @@ use Rattle.hir_number.specs.Signatures.{function_uses, without_writer}
 use Rattle.hir_number.proofs.WithinLemmas.{if_ok_so, numbers_within}
 use Rattle.hir_number.proofs.AnswerLemmas.{function_given}
 use Rattle.hir_number.proofs.ElisionLemmas.{function_elided}
+use Rattle.hir_number.proofs.FitLemmas.{function_arity}
 use Rattle.hir_number.proofs.signature.number_function.Goals as goal
 
 pub returns-clause-numbered : goal.returns-clause-numbered
@@ -23,4 +24,10 @@ pub returns-clause-within : goal.returns-clause-within
 returns-clause-within c = λ names is.
     if_ok_so (IsNumberedFunction names c.args.function.now) _ c.number_signature.result
     (λ n has. numbers_within c.args.function.now.lifetimes (function_uses names c.args.function.now) (numbers_of n) n.lifetimes has.numbers has.lifetimes)
+    (returns-clause-numbered c names is)
+
+pub returns-clause-arity : goal.returns-clause-arity
+returns-clause-arity c = λ names is none.
+    if_ok_so (IsNumberedFunction names c.args.function.now) _ c.number_signature.result
+    (λ n has. function_arity names c.args.function.now (numbers_of n) none has.numbers)
     (returns-clause-numbered c names is)
