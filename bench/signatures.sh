@@ -82,10 +82,9 @@ use hir_number::{
     number_function, number_method,
 };
 use std::alloc::Global;
-use std::env;
-use std::io;
 use std::process::ExitCode;
 use std::time::Instant;
+use std::{env, io};
 
 /// How many lifetimes are declared, and how many uses there are.
 #[derive(Clone, Copy)]
@@ -132,7 +131,9 @@ fn declared(alloc: Global, count: usize) -> Result<LifetimeEnv, NoMemory> {
 
 /// A number below this one that looks like chance.
 fn next(state: &mut u64, below: usize) -> usize {
-    *state = state.wrapping_mul(6364136223846793005).wrapping_add(1442695040888963407);
+    *state = state
+        .wrapping_mul(6364136223846793005)
+        .wrapping_add(1442695040888963407);
     let number = (*state >> 33) as usize;
     if below > 0 { number % below } else { 0 }
 }
@@ -169,12 +170,7 @@ fn pair(alloc: Global, state: &mut u64, names: usize) -> Result<TypeName, NoMemo
 }
 
 /// The type of a turn: each is one use.
-fn used(
-    alloc: Global,
-    state: &mut u64,
-    names: usize,
-    turn: usize,
-) -> Result<TypeName, NoMemory> {
+fn used(alloc: Global, state: &mut u64, names: usize, turn: usize) -> Result<TypeName, NoMemory> {
     if turn % 2 == 0 {
         reference(alloc, state, names)
     } else {
@@ -617,11 +613,11 @@ step() {
     fi
 }
 
-printf '%-10s %9s %9s %10s %10s %10s %10s %10s %12s\n' of names uses 'tested, ms' 'told' 'numbered, ms' told 'made, MB' 'called, MB'
+printf '%-10s %9s %9s %10s %6s %12s %10s %10s %10s %10s\n' of names uses 'tested, ms' told 'numbered, ms' told 'made, MB' 'tested, MB' 'numbered, MB'
 for row in 'function 4095 250000' 'function 4095 1000000' 'method 4093 250000' 'method 4093 1000000' \
     'definition 4095 250000' 'definition 4095 1000000' 'function 250000 250000' 'function 1000000 1000000' \
     'definition 250000 250000' 'definition 1000000 1000000'; do
     # shellcheck disable=SC2086
     echo "$row $(step made $row) $(step tested $row) $(step numbered $row)" | awk '
-        { printf "%-10s %9d %9d %10.1f %10s %12.3f %10s %10.0f %6.0f %6.0f\n", $1, $2, $3, $7 / 1e6, $8, $10 / 1e6, $11, $6 / 1e3, $9 / 1e3, $12 / 1e3 }'
+        { printf "%-10s %9d %9d %10.1f %6s %12.3f %10s %10.0f %10.0f %10.0f\n", $1, $2, $3, $7 / 1e6, $8, $10 / 1e6, $11, $6 / 1e3, $9 / 1e3, $12 / 1e3 }'
 done
