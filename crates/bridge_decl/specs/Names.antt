@@ -1,5 +1,5 @@
--- The names of items, paths as they are written, and where a report belongs.
-use Rattle.std.specs.Prelude.{ℕ, List, [], ◌∷◌, ◌++◌, codes, Option}
+-- The names of items, and paths as they are written.
+use Rattle.std.specs.Prelude.{ℕ, List, [], ◌∷◌, ◌++◌, codes}
 use Rattle.bridge_decl.specs.declared.paths.PathType.{PathType}
 use Rattle.bridge_decl.specs.declared.modules.Item.{Item}
 use Rattle.bridge_decl.specs.declared.modules.Item.TheVariants.{Struct, Opaque, Enum, Trait, Function}
@@ -11,12 +11,6 @@ item_name (Opaque item) = item.name
 item_name (Enum item) = item.name
 item_name (Trait item) = item.name
 item_name (Function item) = item.name
-
--- where something stands: the path of a module, the name of an item in it, and that of a method of the item
-pub record Place : Type 0 where
-  pub path : List (List ℕ)
-  pub item : List ℕ
-  pub method : Option (List ℕ)
 
 -- the texts one after another, with the separator between two
 abbrev pub joined : List ℕ → List (List ℕ) → List ℕ
