@@ -1,3 +1,4 @@
+pub mod ArityLemmas
 pub mod GenericLemmas
 pub mod NumberingLemmas
 pub mod OccurrenceLemmas

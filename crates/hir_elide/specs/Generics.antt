@@ -63,6 +63,11 @@ with_generics (Using role) is_self s ls = with_path is_self (Using role) s ls
 with_generics Returning is_self s ls = with_path is_self Returning s ls
 with_generics Defining is_self s ls = with_uses Defining s ls
 
+-- `Self`, where it was met, was used with so many lifetimes: where nothing is wrong with its paths by themselves, they are as many
+-- as its definition has
+abbrev pub OwnHasArity : Signature → ℕ → Type 0
+OwnHasArity s count = s.has_self ≡ true → length (used_as is_own s) ≡ count
+
 -- a fault is that of the answer, unless it is want of memory
 abbrev pub TellsFault : {A : Type 0} → ElideFault → Result A ElideFault → Type 0
 TellsFault fault.NoMemory answer = ⊤

@@ -1,6 +1,6 @@
 //! Lists of lifetimes, lowered one after another.
 
-ghost use Rattle.std.specs.Prelude.{◌≡◌, ◌≤◌, List, Ok, IfOk, IfErr, OnOk, length, map, replicate, ◌++◌};
+ghost use Rattle.std.specs.Prelude.{◌≡◌, ◌≤◌, ◌+◌, List, Ok, IfOk, IfErr, OnOk, length, map, replicate, ◌++◌};
 ghost use Rattle.bridge_decl.specs.declared.lifetimes.Lifetime.{Lifetime as Used};
 ghost use Rattle.bridge_decl.specs.declared.lifetimes.Lifetime.TheVariants as used_as;
 ghost use Rattle.hir_elide.specs.Generics.{IsUnlessNoMemory, TellsFault, all_or_fault, filled};
@@ -26,6 +26,7 @@ fn lower_written<L: LowerLifetime>(
     ensures fault { (s : Signature) → L.stands lowerer.old s
         → IfErr result (λ fault.
         TellsFault fault (all_or_fault (lowered_each L.phase s lifetimes.now))) }
+    ensures arity { IfOk result (λ numbers. length numbers ≡ length lifetimes.now) }
 {
     let mut lowered = Lifetimes::new(alloc);
     for lifetime in lifetimes {
@@ -53,6 +54,7 @@ fn lower_unwritten<L: LowerLifetime>(
         → lowered_each L.phase s ls ≡ map Ok written
         → IfErr result (λ fault. TellsFault fault (all_or_fault (lowered_each L.phase s
         (ls ++ replicate count used_as.Anonymous)))) }
+    ensures arity { IfOk result (λ numbers. length numbers ≡ length written + count) }
 {
     let mut lowered = written;
     for _ in 0..count {
@@ -78,6 +80,7 @@ pub fn lower_each<L: LowerLifetime>(
     ensures numbers { (s : Signature) → L.stands lowerer.old s
         → IfOk result (λ numbers. lowered_each L.phase s (filled lifetimes.now count)
         ≡ map Ok numbers) }
+    ensures arity { IfOk result (λ numbers. length numbers ≡ count) }
 {
     let written = lower_written(alloc, lowerer, lifetimes)?;
     let lowered = lower_unwritten(lowerer, written, count - lifetimes.len())?;

@@ -65,6 +65,7 @@ mod source;
 pub use definition::DefinitionLowerer;
 pub use fault::ElideFault;
 pub use lowerer::{LifetimeLowerer, LowerLifetime, StandsFor};
+pub use numbering::MOST_LIFETIMES;
 pub use params::ParamLifetimeLowerer;
 pub use returns::ReturnLifetimeLowerer;
 pub use self_param::SelfParamLifetimeLowerer;

@@ -1,7 +1,7 @@
 //! What lowers lifetimes, in whatever place they are used.
 
-ghost use Rattle.std.specs.Prelude.{◌≡◌, ◌∷◌, [], ◌≤◌, OnOk, length};
-ghost use Rattle.hir_elide.specs.Generics.{IsUnlessNoMemory, all_or_fault, filled, lowered_generics, with_generics};
+ghost use Rattle.std.specs.Prelude.{◌≡◌, ◌∷◌, [], ◌≤◌, IfOk, OnOk, length, true};
+ghost use Rattle.hir_elide.specs.Generics.{IsUnlessNoMemory, OwnHasArity, all_or_fault, filled, lowered_generics, with_generics};
 ghost use Rattle.hir_elide.specs.Occurrences.{Signature};
 ghost use Rattle.hir_elide.specs.Phases.{Phase, lowered, lowered_each, with_uses};
 
@@ -35,7 +35,7 @@ pub trait LowerLifetime: StandsFor {
 /// Lowers the generics of paths too.
 pub trait LifetimeLowerer: LowerLifetime {
     /// The generics of a path that are used next, in order. Those that the path doesn't write are anonymous, up to as many
-    /// as its definition has.
+    /// as its definition has, so that as many come back.
     fn lower_lifetimes(
         &mut self,
         alloc: Global,
@@ -50,6 +50,7 @@ pub trait LifetimeLowerer: LowerLifetime {
         ensures kept { (s : Signature) → Self.stands self.old s
             → OnOk result (Self.stands self.new (with_uses Self.phase s (filled lifetimes.now
             (length type_generics.now.nodes)))) }
+        ensures arity { IfOk result (λ numbers. length numbers ≡ length type_generics.now.nodes) }
     {
         lower_each(alloc, self, lifetimes, type_generics.nodes.len())
     }
@@ -69,5 +70,8 @@ pub trait LifetimeLowerer: LowerLifetime {
             (filled lifetimes.now (length type_generics.now.nodes)))) }
         ensures kept { (s : Signature) → Self.stands self.old s
             → OnOk result (Self.stands self.new (with_generics Self.phase is_self s
-            (filled lifetimes.now (length type_generics.now.nodes)))) };
+            (filled lifetimes.now (length type_generics.now.nodes)))) }
+        ensures arity { (s : Signature) → Self.stands self.old s
+            → (is_self ≡ true → OwnHasArity s (length type_generics.now.nodes))
+            → IfOk result (λ numbers. length numbers ≡ length type_generics.now.nodes) };
 }

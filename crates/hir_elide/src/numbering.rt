@@ -4,7 +4,7 @@ ghost use Rattle.std.specs.Prelude.{◌≡◌, ◌≤◌, ◌∷◌, [], Ok, IfO
 ghost use Rattle.bridge_decl.specs.Lifetimes.{lifetime_names};
 ghost use Rattle.bridge_text.specs.NameIndex.{number_of};
 ghost use Rattle.bridge_decl.specs.declared.lifetimes.Lifetime.TheVariants as written;
-ghost use Rattle.hir_elide.specs.Generics.{IsUnlessNoMemory, all_or_fault, filled, own_numbers, with_own};
+ghost use Rattle.hir_elide.specs.Generics.{IsUnlessNoMemory, OwnHasArity, all_or_fault, filled, own_numbers, with_own};
 ghost use Rattle.hir_elide.specs.Numbering.{lifetime_number, name_number, within_most};
 ghost use Rattle.hir_elide.specs.Occurrences.{Role, Own, Signature, count_of};
 ghost use Rattle.hir_elide.specs.Phases.{Using, lowered_each, with_uses};
@@ -17,13 +17,13 @@ use hir_life::{self, Lifetime, Lifetimes, MaybeStatic};
 use std::alloc::Global;
 
 /// The most lifetimes that a signature or a definition may have.
-pub const MOST: usize = 4095;
+pub const MOST_LIFETIMES: usize = 4095;
 
 /// The number, where a lifetime may have it.
 pub fn within_most(number: usize) -> Result<MaybeStatic<Lifetime>, ElideFault>
     ensures { result ≡ within_most number }
 {
-    if number < MOST {
+    if number < MOST_LIFETIMES {
         Ok(MaybeStatic::NonStatic(Lifetime::new(number)))
     } else {
         Err(ElideFault::TooManyLifetimes)
@@ -62,7 +62,7 @@ impl Numbering {
             → OnOk result (Numbers self.new (with_uses (Using role) s (written.Anonymous ∷ []))) }
         ensures own { self.new.own ≡ self.old.own }
     {
-        if self.lifetimes.num_lifetimes() >= MOST {
+        if self.lifetimes.num_lifetimes() >= MOST_LIFETIMES {
             return Err(ElideFault::TooManyLifetimes);
         }
         Ok(MaybeStatic::NonStatic(self.lifetimes.add_anonymous()))
@@ -122,6 +122,9 @@ impl Numbering {
             → OnOk result
             (IsOwn self.new.own (with_own s.has_self s (filled lifetimes.now
             (length type_generics.now.nodes)))) }
+        ensures arity { (s : Signature) → Numbers self.old s → IsOwn self.old.own s
+            → OwnHasArity s (length type_generics.now.nodes)
+            → IfOk result (λ numbers. length numbers ≡ length type_generics.now.nodes) }
     {
         match &self.own {
             Some(own) => Ok(own.try_clone(alloc)?),
@@ -149,6 +152,7 @@ impl Numbering {
             → IfOk result (λ numbers. (self.new.own ≡ Some numbers)
             × (lowered_each (Using Own) s (filled lifetimes.now (length type_generics.now.nodes))
             ≡ map Ok numbers)) }
+        ensures arity { IfOk result (λ numbers. length numbers ≡ length type_generics.now.nodes) }
     {
         let own = lower_each(alloc, self, lifetimes, type_generics.nodes.len())?;
         let copy = own.try_clone(alloc)?;

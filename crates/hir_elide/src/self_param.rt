@@ -10,7 +10,7 @@ ghost use Rattle.hir_elide.specs.Signature.{begun, IsOfNames};
 
 use crate::fault::ElideFault;
 use crate::lowerer::StandsFor;
-use crate::numbering::{MOST, Numbering};
+use crate::numbering::{MOST_LIFETIMES, Numbering};
 use crate::params::ParamLifetimeLowerer;
 use crate::source::ElisionSource;
 use bridge_decl::{IdentFault, Lifetime as Written, LifetimeEnv, index_lifetimes};
@@ -42,7 +42,7 @@ impl SelfParamLifetimeLowerer {
         ensures bad { IsErrOf result ElideFault.BadIdent → ¬ (HasIdents env.now) }
         ensures only { IfErr result IsOfNames }
     {
-        if env.nodes.len() > MOST {
+        if env.nodes.len() > MOST_LIFETIMES {
             return Err(ElideFault::TooManyLifetimes);
         }
         let lifetimes = match hir_life::LifetimeEnv::of_declared(alloc, env) {

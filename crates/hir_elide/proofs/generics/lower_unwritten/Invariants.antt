@@ -1,4 +1,4 @@
-use Rattle.std.proofs.Common.{◌≡◌, List, Ok, ◌++◌, map, replicate}
+use Rattle.std.proofs.Common.{◌≡◌, ◌+◌, List, Ok, ◌++◌, length, map, replicate}
 use Rattle.bridge_decl.specs.declared.lifetimes.Lifetime.{Lifetime}
 use Rattle.bridge_decl.specs.declared.lifetimes.Lifetime.TheVariants as written
 use Rattle.hir_elide.specs.Occurrences.{Signature}
@@ -7,7 +7,8 @@ use Rattle.hir_elide.proofs.generics.lower_unwritten.Given as goal
 
 abbrev pub invariant-loop : goal.invariant-loop
 invariant-loop g l =
-    (s : Signature) (ls : List Lifetime) → g.L.StandsFor.stands l.initial.lowerer (with_uses g.L.LowerLifetime.phase s ls)
+    (length l.lowered ≡ length l.initial.lowered + l.counter)
+    × ((s : Signature) (ls : List Lifetime) → g.L.StandsFor.stands l.initial.lowerer (with_uses g.L.LowerLifetime.phase s ls)
     → lowered_each g.L.LowerLifetime.phase s ls ≡ map Ok l.initial.lowered
     → (lowered_each g.L.LowerLifetime.phase s (ls ++ replicate l.counter written.Anonymous) ≡ map Ok l.lowered)
-    × g.L.StandsFor.stands l.lowerer (with_uses g.L.LowerLifetime.phase s (ls ++ replicate l.counter written.Anonymous))
+    × g.L.StandsFor.stands l.lowerer (with_uses g.L.LowerLifetime.phase s (ls ++ replicate l.counter written.Anonymous)))

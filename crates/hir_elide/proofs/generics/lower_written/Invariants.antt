@@ -1,10 +1,11 @@
-use Rattle.std.proofs.Common.{◌≡◌, Ok, map, take}
+use Rattle.std.proofs.Common.{◌≡◌, Ok, length, map, take}
 use Rattle.hir_elide.specs.Occurrences.{Signature}
 use Rattle.hir_elide.specs.Phases.{lowered_each, with_uses}
 use Rattle.hir_elide.proofs.generics.lower_written.Given as goal
 
 abbrev pub invariant-loop-lifetime : goal.invariant-loop-lifetime
 invariant-loop-lifetime g l =
-    (s : Signature) → g.L.StandsFor.stands l.initial.lowerer s
+    (length l.lowered ≡ l.lifetime-index)
+    × ((s : Signature) → g.L.StandsFor.stands l.initial.lowerer s
     → (lowered_each g.L.LowerLifetime.phase s (take l.lifetime-index l.lifetimes) ≡ map Ok l.lowered)
-    × g.L.StandsFor.stands l.lowerer (with_uses g.L.LowerLifetime.phase s (take l.lifetime-index l.lifetimes))
+    × g.L.StandsFor.stands l.lowerer (with_uses g.L.LowerLifetime.phase s (take l.lifetime-index l.lifetimes)))
