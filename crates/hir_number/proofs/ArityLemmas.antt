@@ -13,6 +13,7 @@ use Rattle.hir_elide.specs.Numbering.{Number, lifetime_number, lifetime_numbers,
 use Rattle.hir_elide.specs.Occurrences.{Occurrence, Own, Role, Signature, is_own, numbers_with, used_as}
 use Rattle.hir_elide.specs.Phases.{Phase, Using, Returning, Defining, defined, lowered, lowered_each, occurring, returned}
 use Rattle.hir_life.specs.declared.maybe_static.MaybeStatic.{MaybeStatic}
+use Rattle.hir_elide.proofs.ArityLemmas.{Long, all_long, filled_long, generics_long, meets_at}
 use Rattle.hir_number.specs.declared.fault.NumberFault.{NumberFault}
 use Rattle.hir_number.specs.declared.fault.NumberFault.TheVariants as fault
 use Rattle.hir_number.specs.Arity.{HaveArity, arity_of_use}
@@ -29,41 +30,12 @@ use Rattle.hir_number.proofs.RoleLemmas.{meets_same, own_told, phase_meets, use_
 
 -- ---- lists
 
--- so many, if there are any
-abbrev Long : {A E : Type 0} → ℕ → Result (List A) E → Type 0
-Long n (Ok xs) = length xs ≡ n
-Long n (Err e) = ⊤
-
-first_long : (n : ℕ) (x : MaybeStatic ℕ) (r : Result (List (MaybeStatic ℕ)) ElideFault) → Long n r → Long (suc n) (with_first x r)
-first_long n x (Ok xs) h = ap suc h
-first_long n x (Err e) h = tt
-
-all_long : (rs : List Number) → Long (length rs) (all_or_fault rs)
-all_long [] = refl
-all_long (Ok x ∷ rs) = first_long (length rs) x (all_or_fault rs) (all_long rs)
-all_long (Err e ∷ rs) = tt
-
 elided_long : (n : ℕ) (r : Result (List (MaybeStatic ℕ)) ElideFault) → Long n r → Long n (of_elided r)
 elided_long n (Ok xs) h = h
 elided_long n (Err e) h = tt
 
 so_long : (n : ℕ) (rs : List Number) → length rs ≡ n → Long n (of_elided (all_or_fault rs))
 so_long n rs h = elided_long n (all_or_fault rs) (subst (λ m. Long m (all_or_fault rs)) h (all_long rs))
-
-numbers_long : (names : List (List ℕ)) (c : ℕ) (ls : List Lifetime) → length (lifetime_numbers names c ls) ≡ length ls
-numbers_long names c [] = refl
-numbers_long names c (l ∷ ls) = ap suc (numbers_long names (one_if_anonymous l c) ls)
-
-each_long : (phase : Phase) (s : Signature) (ls : List Lifetime) → length (lowered_each phase s ls) ≡ length ls
-each_long (Using role) s ls = numbers_long _ _ ls
-each_long Returning s ls = length-map ls (returned s)
-each_long Defining s ls = length-map ls (defined s)
-
-filled_long : (ls : List Lifetime) (n : ℕ) → length ls ≤ n → length (filled ls n) ≡ n
-filled_long ls n h =
-    let whole = length-append ls (replicate (n - length ls) written.Anonymous) in
-    let rest = length-replicate (n - length ls) written.Anonymous in
-    omega (arith, whole, rest, h)
 
 -- ---- the generics of `Self`
 
@@ -103,24 +75,6 @@ with_long names c (o ∷ os) =
 
 used_long : (s : Signature) → length (used_as is_own s) ≡ owns s.occurrences
 used_long s = with_long _ _ s.occurrences
-
-own_long : (met : Bool) (s : Signature) (ls : List Lifetime) (n : ℕ) → length ls ≡ n → (met ≡ true → owns s.occurrences ≡ n) → length (own_numbers met s ls) ≡ n
-own_long true s ls n h k = used_long s ∙ k refl
-own_long false s ls n h k = each_long (Using Own) s ls ∙ h
-
--- whether `Self` is met
-abbrev pub meets_at : Phase → Bool → Bool
-meets_at (Using role) is_self = is_self
-meets_at Returning is_self = is_self
-meets_at Defining is_self = false
-
-generics_long : (phase : Phase) (is_self : Bool) (s : Signature) (ls : List Lifetime) (n : ℕ) → length ls ≡ n → (meets_at phase is_self ≡ true → s.has_self ≡ true → owns s.occurrences ≡ n)
-    → length (lowered_generics phase is_self s ls) ≡ n
-generics_long (Using role) true s ls n h k = own_long s.has_self s ls n h (k refl)
-generics_long (Using role) false s ls n h k = each_long (Using role) s ls ∙ h
-generics_long Returning true s ls n h k = own_long s.has_self s ls n h (k refl)
-generics_long Returning false s ls n h k = each_long Returning s ls ∙ h
-generics_long Defining is_self s ls n h k = each_long Defining s ls ∙ h
 
 -- ---- uses
 
@@ -203,7 +157,7 @@ module _ (declared : LifetimeEnv) (c : ℕ) where
       let rs : List Number = lowered_generics (phase_of part) is_self s (filled path.lifetimes found.count) in
       arity_long found.count (nat_lt found.count (length path.lifetimes)) (of_elided (all_or_fault rs))
       (so_long found.count rs (generics_long (phase_of part) is_self s (filled path.lifetimes found.count) found.count (filled_long path.lifetimes found.count fit.1.0)
-      (λ own met. h ∙ ap (owned c) met ∙ sym (fit.1.1 own))))
+      (λ own met. used_long s ∙ h ∙ ap (owned c) met ∙ sym (fit.1.1 own))))
 
   answers_long : (before ps : List Placed) → Owned before → Each (PlacedFit c) ps
       → AreLong (uses_of ps) (all_answers (each_after (λ b p. use_answer (phase_of p.0) (signature_with declared b) p.1 ∷ []) before ps))

@@ -19,7 +19,7 @@ use Rattle.hir_elide.specs.Occurrences.{Borrow, Counting}
 use Rattle.hir_elide.specs.Phases.{Using}
 use Rattle.hir_number.specs.declared.fault.NumberFault.{NumberFault}
 use Rattle.hir_number.specs.declared.fault.NumberFault.TheVariants as fault
-use Rattle.hir_number.specs.Breaches.{Anything, At, Broken, Demand, Equal, LifetimeArity, LifetimeUnknown, Nothing, arity_breaches, breaches_of, field_breaches, function_breaches, method_breaches, self_breaches, trait_method_breaches, unknown, use_breaches, uses_of}
+use Rattle.hir_number.specs.Breaches.{Anything, At, Broken, Demand, Equal, LifetimeArity, LifetimeUnknown, Nothing, TooManyLifetimes, arity_breaches, breaches_of, field_breaches, function_breaches, method_breaches, self_breaches, trait_method_breaches, unknown, use_breaches, uses_of, within_limit}
 use Rattle.hir_number.specs.Faults.{IsOfElision, FaultTold}
 use Rattle.hir_number.specs.Naming.{Naming}
 use Rattle.hir_number.specs.Numbers.{all_answers, answers, signature_numbers}
@@ -113,13 +113,21 @@ fault_elided : {A : Type 0} (declared : LifetimeEnv) (us : List Placed) (result 
 fault_elided declared us (Ok x) fine h = tt
 fault_elided declared us (Err e) fine h = told_elided declared e (signature_numbers declared us) (whole_elided declared us fine) h
 
+limit_of : (b : Bool) (others : List Broken) → (if b then TooManyLifetimes ∷ [] else others) ≡ [] → others ≡ []
+limit_of true others h = absurd cc
+limit_of false others h = h
+
+-- nothing is wrong, so nothing else is
+pub limit_kept : (declared : LifetimeEnv) (others : List Broken) → within_limit declared others ≡ [] → others ≡ []
+limit_kept declared others = limit_of (nat_lt most (length declared.nodes)) others
+
 -- ---- each kind
 
 pub method_elided : {A : Type 0} (names : Naming) (owner : ItemPlace) (method : Method) (result : Result A NumberFault) → method_breaches names owner method ≡ []
     → IfErr result (λ e. FaultTold method.lifetime_env e (signature_numbers method.lifetime_env (method_uses names method))) → IfErr result IsOfElision
 method_elided names owner method result none =
     let parts = none_of (breaches_of (lifetime_names method.lifetime_env) (At owner) (type_use names true method.self_type ∷ []))
-    (breaches_of (lifetime_names method.lifetime_env) (Equal method.self_type) (uses_of (method_uses names method))) none in
+    (breaches_of (lifetime_names method.lifetime_env) (Equal method.self_type) (uses_of (method_uses names method))) (limit_kept method.lifetime_env _ none) in
     fault_elided method.lifetime_env (method_uses names method) result
     (placed_fine (lifetime_names method.lifetime_env) (method_uses names method) (uses_fine (lifetime_names method.lifetime_env) (Equal method.self_type) (uses_of (method_uses names method)) parts.1))
 
@@ -127,13 +135,13 @@ pub function_elided : {A : Type 0} (names : Naming) (function : Function) (resul
     → IfErr result (λ e. FaultTold function.lifetimes e (signature_numbers function.lifetimes (function_uses names function))) → IfErr result IsOfElision
 function_elided names function result none =
     fault_elided function.lifetimes (function_uses names function) result
-    (placed_fine (lifetime_names function.lifetimes) (function_uses names function) (uses_fine (lifetime_names function.lifetimes) Nothing (uses_of (function_uses names function)) none))
+    (placed_fine (lifetime_names function.lifetimes) (function_uses names function) (uses_fine (lifetime_names function.lifetimes) Nothing (uses_of (function_uses names function)) (limit_kept function.lifetimes _ none)))
 
 pub fields_elided : {A : Type 0} (names : Naming) (item : Struct) (result : Result A NumberFault) → field_breaches names item ≡ []
     → IfErr result (λ e. FaultTold item.lifetimes e (signature_numbers item.lifetimes (field_uses names item.fields))) → IfErr result IsOfElision
 fields_elided names item result none =
     fault_elided item.lifetimes (field_uses names item.fields) result
-    (placed_fine (lifetime_names item.lifetimes) (field_uses names item.fields) (uses_fine (lifetime_names item.lifetimes) Anything (uses_of (field_uses names item.fields)) none))
+    (placed_fine (lifetime_names item.lifetimes) (field_uses names item.fields) (uses_fine (lifetime_names item.lifetimes) Anything (uses_of (field_uses names item.fields)) (limit_kept item.lifetimes _ none)))
 
 trait_fine : (all : List (List ℕ)) (owner : ItemPlace) (bs rs ps os : List Use) → breaches_of all (At owner) (bs ++ rs) ++ breaches_of all Nothing (ps ++ os) ≡ []
     → Each (PlacedFine IsOfElision elision all) ((placed (Usual (Using Borrow)) bs ++ placed (Usual (Using Counting)) (rs ++ ps)) ++ placed TraitReturn os)
@@ -152,4 +160,4 @@ pub trait_method_elided : {A : Type 0} (names : Naming) (owner : ItemPlace) (met
     → IfErr result (λ e. FaultTold method.lifetimes e (signature_numbers method.lifetimes (trait_method_uses names method))) → IfErr result IsOfElision
 trait_method_elided names owner method result none =
     fault_elided method.lifetimes (trait_method_uses names method) result
-    (trait_fine (lifetime_names method.lifetimes) owner (borrow_uses (trait_borrow method.self_param)) (trait_receiver_uses names method.self_param) (param_uses names method.params) (output_uses names method.output_type) none)
+    (trait_fine (lifetime_names method.lifetimes) owner (borrow_uses (trait_borrow method.self_param)) (trait_receiver_uses names method.self_param) (param_uses names method.params) (output_uses names method.output_type) (limit_kept method.lifetimes _ none))

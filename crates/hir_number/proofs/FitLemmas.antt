@@ -27,9 +27,10 @@ use Rattle.hir_number.specs.Numbers.{signature_numbers}
 use Rattle.hir_number.specs.Shapes.{NumberLists}
 use Rattle.hir_number.specs.Signatures.{Section, TraitReturn, Usual, field_uses, function_uses, method_uses, output_uses, param_uses, phase_of, placed, receiver_borrow, receiver_uses, trait_borrow, trait_method_uses, trait_receiver_uses, without_writer}
 use Rattle.hir_number.specs.Uses.{Use, One, Path, borrow_uses, type_use, type_uses}
-use Rattle.hir_number.proofs.ArityLemmas.{IsApart, IsFit, PlacedFit, meets_at, numbers_arity}
+use Rattle.hir_elide.proofs.ArityLemmas.{meets_at}
+use Rattle.hir_number.proofs.ArityLemmas.{IsApart, IsFit, PlacedFit, numbers_arity}
 use Rattle.hir_number.proofs.BreachLemmas.{of_placed, of_signature}
-use Rattle.hir_number.proofs.ElisionLemmas.{few, none_of}
+use Rattle.hir_number.proofs.ElisionLemmas.{few, limit_kept, none_of}
 use Rattle.hir_number.proofs.FaultLemmas.{Each, each_both}
 use Rattle.hir_number.proofs.NamedLemmas.{IsNamed, borrow_named, named, output_named, params_named, receiver_named}
 
@@ -168,7 +169,7 @@ method_arity names owner method nss none is =
     let rs : List Use = receiver_uses names method.self_param in
     let ps : List Use = param_uses names (without_writer method.params) in
     let os : List Use = output_uses names method.return_type in
-    let sides = none_of (breaches_of all (At owner) (type_use names true own ∷ [])) (breaches_of all (Equal own) (uses_of (method_uses names method))) none in
+    let sides = none_of (breaches_of all (At owner) (type_use names true own ∷ [])) (breaches_of all (Equal own) (uses_of (method_uses names method))) (limit_kept method.lifetime_env _ none) in
     let parts = none_of (breaches_of all (Equal own) bs ++ breaches_of all (Equal own) rs) (breaches_of all (Equal own) ps ++ breaches_of all (Equal own) os)
     (sym (of_signature all (Equal own) (Usual (Using Borrow)) (Usual (Using Counting)) (Usual Returning) bs rs ps os) ∙ sides.1) in
     let first = none_of (breaches_of all (Equal own) bs) (breaches_of all (Equal own) rs) parts.0 in
@@ -187,7 +188,7 @@ function_arity names function nss none is =
     let ps : List Use = param_uses names (without_writer function.params) in
     let os : List Use = output_uses names function.output_type in
     let parts = none_of (breaches_of all Nothing ps) (breaches_of all Nothing os)
-    (sym (of_signature all Nothing (Usual (Using Borrow)) (Usual (Using Counting)) (Usual Returning) [] [] ps os) ∙ none) in
+    (sym (of_signature all Nothing (Usual (Using Borrow)) (Usual (Using Counting)) (Usual Returning) [] [] ps os) ∙ limit_kept function.lifetimes _ none) in
     numbers_arity function.lifetimes 0 (function_uses names function) nss
     (signature_fit 0 (Usual Returning) [] [] ps os tt tt tt
     (uses_fit all Nothing 0 (Using Counting) ps parts.0 (each_use (Allows Nothing 0 (Using Counting)) (none_allowed 0 (Using Counting)) ps))
@@ -202,7 +203,7 @@ trait_method_arity names owner method nss none is =
     let rs : List Use = trait_receiver_uses names method.self_param in
     let ps : List Use = param_uses names method.params in
     let os : List Use = output_uses names method.output_type in
-    let sides = none_of (breaches_of all (At owner) (bs ++ rs)) (breaches_of all Nothing (ps ++ os)) none in
+    let sides = none_of (breaches_of all (At owner) (bs ++ rs)) (breaches_of all Nothing (ps ++ os)) (limit_kept method.lifetimes _ none) in
     let first = each_none all (At owner) bs rs sides.0 in
     let last = each_none all Nothing ps os sides.1 in
     numbers_arity method.lifetimes c (trait_method_uses names method) nss
@@ -219,4 +220,4 @@ fields_arity names item nss none is =
     let us : List Use = flat_map (λ (field : Field). type_uses names field.ty) item.fields in
     numbers_arity item.lifetimes 0 (field_uses names item.fields) nss
     (placed_fit 0 (Usual Defining) us tt
-    (uses_fit all Anything 0 Defining us (sym (of_placed all Anything (Usual Defining) us) ∙ none) (each_use (Allows Anything 0 Defining) (defined_allowed 0 Anything) us))) is
+    (uses_fit all Anything 0 Defining us (sym (of_placed all Anything (Usual Defining) us) ∙ limit_kept item.lifetimes _ none) (each_use (Allows Anything 0 Defining) (defined_allowed 0 Anything) us))) is

@@ -1,6 +1,6 @@
 -- What is wrong with the paths and lifetimes of a signature or a definition by themselves: a path that names nothing or writes too
 -- many lifetimes, a `Self` that isn't the type that declares it, a lifetime that isn't declared. All of it is told, in the order in
--- which it stands.
+-- which it stands; but where more lifetimes are declared than there may be, that alone is told.
 use Rattle.std.specs.Prelude.{ℕ, List, [], ◌∷◌, ◌++◌, length, map, Bool, true, false, ◌&&◌, Option, Some, None, is_some, nat_eq, nat_lt, if◌then◌else◌}
 use Rattle.std.specs.List.{flat_map}
 use Rattle.std.specs.Str.{bytes_eq}
@@ -8,6 +8,7 @@ use Rattle.std.specs.Cmp.Lexicographic.{pointwise}
 use Rattle.bridge_decl.specs.declared.functions.Function.{Function}
 use Rattle.bridge_decl.specs.declared.lifetimes.Lifetime.{Lifetime}
 use Rattle.bridge_decl.specs.declared.lifetimes.Lifetime.TheVariants as written
+use Rattle.bridge_decl.specs.declared.lifetimes.LifetimeEnv.{LifetimeEnv}
 use Rattle.bridge_decl.specs.declared.methods.Method.{Method}
 use Rattle.bridge_decl.specs.declared.paths.PathType.{PathType}
 use Rattle.bridge_decl.specs.declared.structs.Struct.{Struct}
@@ -15,6 +16,7 @@ use Rattle.bridge_decl.specs.declared.traits.TraitMethod.{TraitMethod}
 use Rattle.bridge_decl.specs.Lifetimes.{lifetime_names}
 use Rattle.bridge_text.specs.NameIndex.{number_of}
 use Rattle.bridge_ast.specs.declared.place.ItemPlace.{ItemPlace}
+use Rattle.hir_elide.specs.Numbering.{most}
 use Rattle.hir_number.specs.declared.breach.Breach.{Breach}
 use Rattle.hir_number.specs.declared.breach.Breach.TheVariants as code
 use Rattle.hir_number.specs.Naming.{Definition, Naming}
@@ -31,6 +33,8 @@ pub data Broken : Type 0 where
   SelfMismatch : Broken
   -- the lifetime isn't declared
   LifetimeUnknown : List ℕ → Broken
+  -- more lifetimes are declared than a signature or a definition may have
+  TooManyLifetimes : Broken
 
 -- what the code lends, as that
 abbrev pub broken : Breach → Broken
@@ -38,6 +42,7 @@ broken (code.UnresolvedPath path) = UnresolvedPath path.now
 broken (code.LifetimeArity path) = LifetimeArity path.now
 broken code.SelfMismatch = SelfMismatch
 broken (code.LifetimeUnknown name) = LifetimeUnknown name.now
+broken code.TooManyLifetimes = TooManyLifetimes
 
 -- what `Self` has to be in a signature or a definition
 pub data Demand : Type 0 where
@@ -108,22 +113,28 @@ breaches_of names demand us = flat_map (use_breaches names demand) us
 abbrev pub uses_of : List Placed → List Use
 uses_of ps = map (λ p. p.1) ps
 
+-- with what declares these lifetimes: they are too many, or there is what else is wrong
+abbrev pub within_limit : LifetimeEnv → List Broken → List Broken
+within_limit declared others = if nat_lt most (length declared.nodes) then TooManyLifetimes ∷ [] else others
+
 -- with a method of the type there
 abbrev pub method_breaches : Naming → ItemPlace → Method → List Broken
-method_breaches names owner method =
-    breaches_of (lifetime_names method.lifetime_env) (At owner) (type_use names true method.self_type ∷ [])
-    ++ breaches_of (lifetime_names method.lifetime_env) (Equal method.self_type) (uses_of (method_uses names method))
+method_breaches names owner method = within_limit method.lifetime_env
+    (breaches_of (lifetime_names method.lifetime_env) (At owner) (type_use names true method.self_type ∷ [])
+    ++ breaches_of (lifetime_names method.lifetime_env) (Equal method.self_type) (uses_of (method_uses names method)))
 
 -- with a function
 abbrev pub function_breaches : Naming → Function → List Broken
-function_breaches names function = breaches_of (lifetime_names function.lifetimes) Nothing (uses_of (function_uses names function))
+function_breaches names function = within_limit function.lifetimes
+    (breaches_of (lifetime_names function.lifetimes) Nothing (uses_of (function_uses names function)))
 
 -- with a method of the trait there
 abbrev pub trait_method_breaches : Naming → ItemPlace → TraitMethod → List Broken
-trait_method_breaches names owner method =
-    breaches_of (lifetime_names method.lifetimes) (At owner) (borrow_uses (trait_borrow method.self_param) ++ trait_receiver_uses names method.self_param)
-    ++ breaches_of (lifetime_names method.lifetimes) Nothing (param_uses names method.params ++ output_uses names method.output_type)
+trait_method_breaches names owner method = within_limit method.lifetimes
+    (breaches_of (lifetime_names method.lifetimes) (At owner) (borrow_uses (trait_borrow method.self_param) ++ trait_receiver_uses names method.self_param)
+    ++ breaches_of (lifetime_names method.lifetimes) Nothing (param_uses names method.params ++ output_uses names method.output_type))
 
 -- with the fields of a struct
 abbrev pub field_breaches : Naming → Struct → List Broken
-field_breaches names item = breaches_of (lifetime_names item.lifetimes) Anything (uses_of (field_uses names item.fields))
+field_breaches names item = within_limit item.lifetimes
+    (breaches_of (lifetime_names item.lifetimes) Anything (uses_of (field_uses names item.fields)))

@@ -14,6 +14,8 @@ pub enum Breach<'a> {
     SelfMismatch,
     /// The lifetime isn't declared.
     LifetimeUnknown(&'a Text),
+    /// More than 4,095 lifetimes are declared.
+    TooManyLifetimes,
 }
 
 /// What `Self` has to be in a signature or a definition.

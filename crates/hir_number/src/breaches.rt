@@ -1,9 +1,10 @@
 //! What is wrong with the paths and lifetimes of signatures and definitions by themselves.
 
-ghost use Rattle.std.specs.Prelude.{◌≡◌, ◌<◌, ◌++◌, [], ◌∷◌, ℕ, List, None, true, length, map, IfOk, OnOk};
+ghost use Rattle.std.specs.Prelude.{◌≡◌, ◌<◌, ◌++◌, [], ◌∷◌, ℕ, List, None, true, length, map, nat_lt, IfOk, OnOk};
 ghost use Rattle.std.specs.List.{flat_map};
-ghost use Rattle.hir_number.specs.Breaches.{Anything, At, Equal, Nothing, breaches_of, broken, field_breaches, function_breaches, method_breaches, trait_method_breaches, uses_of};
+ghost use Rattle.hir_number.specs.Breaches.{Anything, At, Equal, Nothing, TooManyLifetimes, breaches_of, broken, field_breaches, function_breaches, method_breaches, trait_method_breaches, uses_of};
 ghost use Rattle.bridge_text.specs.NameIndex.{Indexes};
+ghost use Rattle.hir_elide.specs.Numbering.{most};
 ghost use Rattle.hir_number.specs.Naming.{IsNaming, Naming};
 ghost use Rattle.hir_number.specs.Signatures.{field_uses, function_uses, method_uses, output_uses, param_uses, receiver_borrow, receiver_uses, trait_borrow, trait_receiver_uses, without_writer};
 ghost use Rattle.hir_number.specs.Uses.{borrow_uses, type_use, type_uses};
@@ -15,10 +16,27 @@ use crate::tested::test_type;
 use crate::writer::before_writer;
 use bridge_ast::{Env, ItemPlace};
 use bridge_decl::{
-    Field, Function, Method, NameIndex, NoMemory, Param, SelfParam, Struct, TraitMethod,
-    TraitSelfParam, TypeName, index_lifetimes,
+    Field, Function, LifetimeEnv, Method, NameIndex, NoMemory, Param, SelfParam, Struct,
+    TraitMethod, TraitSelfParam, TypeName, index_lifetimes,
 };
+use hir_elide::MOST_LIFETIMES;
 use std::alloc::{AllocError, Global};
+
+/// Whether more lifetimes are declared than there may be.
+fn are_too_many(declared: &LifetimeEnv) -> bool
+    ensures { result ≡ nat_lt most (length declared.now.nodes) }
+{
+    declared.nodes.len() > MOST_LIFETIMES
+}
+
+/// That alone.
+fn too_many<'a>(alloc: Global) -> Result<Vec<Breach<'a>>, NoMemory>
+    ensures { IfOk result (λ breaches. map broken breaches.items ≡ TooManyLifetimes ∷ []) }
+{
+    let mut breaches = Vec::new(alloc);
+    breaches.push(Breach::TooManyLifetimes)?;
+    Ok(breaches)
+}
 
 /// The receiver's borrow and its type.
 fn test_receiver<'a>(
@@ -184,6 +202,7 @@ fn test_signature<'a>(
 
 /// All that is wrong with the paths and lifetimes of a method of the type there by themselves, in order: first with the path of
 /// its type.
+/// `TooManyLifetimes` alone where more than 4,095 lifetimes are declared; then nothing is looked for.
 pub fn method_breaches<'a>(
     alloc: Global,
     env: &Env,
@@ -196,6 +215,9 @@ pub fn method_breaches<'a>(
         → IfOk result (λ breaches.
         map broken breaches.items ≡ method_breaches n owner method.now) }
 {
+    if are_too_many(&method.lifetime_env) {
+        return too_many(alloc);
+    }
     let names = index_lifetimes(alloc, &method.lifetime_env)?;
     let mut breaches = Vec::new(alloc);
     test_owner(&mut breaches, env, number, &names, owner, method)?;
@@ -229,6 +251,7 @@ fn test_function<'a>(
 }
 
 /// All that is wrong with the paths and lifetimes of a function by themselves, in order.
+/// `TooManyLifetimes` alone where more than 4,095 lifetimes are declared; then nothing is looked for.
 pub fn function_breaches<'a>(
     alloc: Global,
     env: &Env,
@@ -239,6 +262,9 @@ pub fn function_breaches<'a>(
     ensures { (n : Naming) → IsNaming env.now number n
         → IfOk result (λ breaches. map broken breaches.items ≡ function_breaches n function.now) }
 {
+    if are_too_many(&function.lifetimes) {
+        return too_many(alloc);
+    }
     let names = index_lifetimes(alloc, &function.lifetimes)?;
     let mut breaches = Vec::new(alloc);
     test_function(&mut breaches, env, number, &names, function)?;
@@ -302,6 +328,7 @@ fn test_trait_rest<'a>(
 }
 
 /// All that is wrong with the paths and lifetimes of a method of the trait there by themselves, in order.
+/// `TooManyLifetimes` alone where more than 4,095 lifetimes are declared; then nothing is looked for.
 pub fn trait_method_breaches<'a>(
     alloc: Global,
     env: &Env,
@@ -314,6 +341,9 @@ pub fn trait_method_breaches<'a>(
         → IfOk result (λ breaches.
         map broken breaches.items ≡ trait_method_breaches n owner method.now) }
 {
+    if are_too_many(&method.lifetimes) {
+        return too_many(alloc);
+    }
     let names = index_lifetimes(alloc, &method.lifetimes)?;
     let mut breaches = Vec::new(alloc);
     test_trait_owner(&mut breaches, env, number, &names, owner, method)?;
@@ -346,6 +376,7 @@ fn test_item<'a>(
 }
 
 /// All that is wrong with the paths and lifetimes of a struct's fields by themselves, in order.
+/// `TooManyLifetimes` alone where more than 4,095 lifetimes are declared; then nothing is looked for.
 pub fn field_breaches<'a>(
     alloc: Global,
     env: &Env,
@@ -356,6 +387,9 @@ pub fn field_breaches<'a>(
     ensures { (n : Naming) → IsNaming env.now number n
         → IfOk result (λ breaches. map broken breaches.items ≡ field_breaches n item.now) }
 {
+    if are_too_many(&item.lifetimes) {
+        return too_many(alloc);
+    }
     let names = index_lifetimes(alloc, &item.lifetimes)?;
     let mut breaches = Vec::new(alloc);
     test_item(&mut breaches, env, number, &names, item)?;

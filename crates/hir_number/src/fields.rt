@@ -15,12 +15,12 @@ ghost use Rattle.hir_number.specs.inside.Runs.{Starts, fields_run, whole_run};
 ghost use Rattle.hir_number.specs.inside.Threads.{Meets};
 
 use crate::fault::NumberFault;
-use crate::indexed::{IndexedDefinition, MOST};
+use crate::indexed::IndexedDefinition;
 use crate::numbered::NumberedType;
 use crate::types::number_type;
 use bridge_ast::Env;
 use bridge_decl::{Field, Items, Struct};
-use hir_elide::{ElideFault, LifetimeLowerer};
+use hir_elide::{ElideFault, LifetimeLowerer, MOST_LIFETIMES};
 use std::alloc::Global;
 
 fn number_each_field<L: LifetimeLowerer>(
@@ -55,7 +55,7 @@ fn number_all_fields(
         → Starts item.now.lifetimes result
         (whole_run item.now.lifetimes (fields_run Defining names item.now.fields)) }
 {
-    if item.lifetimes.nodes.len() > MOST {
+    if item.lifetimes.nodes.len() > MOST_LIFETIMES {
         return Err(NumberFault::Elide(ElideFault::TooManyLifetimes));
     }
     let mut lowerer = IndexedDefinition::new(alloc, &item.lifetimes)?;

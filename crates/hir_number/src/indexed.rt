@@ -5,12 +5,9 @@ ghost use Rattle.hir_elide.specs.Phases.{Defining};
 ghost use Rattle.hir_elide.specs.Signature.{begun};
 
 use bridge_decl::{Lifetime as Written, LifetimeEnv, NameIndex, NoMemory, index_lifetimes};
-use hir_elide::{ElideFault, LifetimeLowerer, LowerLifetime, StandsFor};
+use hir_elide::{ElideFault, LifetimeLowerer, LowerLifetime, MOST_LIFETIMES, StandsFor};
 use hir_life::{Lifetime, Lifetimes, MaybeStatic};
 use std::alloc::Global;
-
-/// The most lifetimes that a definition may declare.
-pub const MOST: usize = 4095;
 
 /// A definition whose names are indexed.
 #[derive(Drop)]
@@ -44,7 +41,7 @@ impl LowerLifetime for IndexedDefinition {
             Written::Static => Ok(MaybeStatic::Static),
             Written::Named(name) => match self.names.get(name) {
                 Some(place) => {
-                    if *place < MOST {
+                    if *place < MOST_LIFETIMES {
                         Ok(MaybeStatic::NonStatic(Lifetime::new(*place)))
                     } else {
                         Err(ElideFault::TooManyLifetimes)

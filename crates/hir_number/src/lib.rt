@@ -30,7 +30,8 @@
 //! # Tested first
 //!
 //! [`method_breaches`] and its kin tell all that is wrong with the uses by themselves, in order (`specs/Breaches`): a path that names nothing,
-//! one that writes more lifetimes than its definition declares, a `Self` that isn't the declaring type, a lifetime that isn't declared.
+//! one that writes more lifetimes than its definition declares, a `Self` that isn't the declaring type, a lifetime that isn't declared. Where
+//! more than 4,095 lifetimes are declared, that alone is told.
 //!
 //! # Then numbered
 //!

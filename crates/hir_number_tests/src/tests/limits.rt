@@ -50,6 +50,13 @@ const FIELDS: [Row; 2] = [
     ("l", 4096, 0, "TooManyLifetimes"),
 ];
 
+/// How many names are declared, and what is wrong by itself, whatever it is that declares them.
+const TESTED: [(usize, &str); 3] = [
+    (4095, ""),
+    (4096, "TooManyLifetimes"),
+    (4097, "TooManyLifetimes"),
+];
+
 fn name(alloc: Global, start: &str, number: usize) -> Result<Text, NoMemory> {
     let mut name = String::new(alloc);
     name.push_str(start)?;
@@ -131,10 +138,10 @@ fn with_field(alloc: Global, row: &Row) -> Result<Item, NoMemory> {
 /// The item that a row declares for the call.
 fn declared(alloc: Global, call: Call, row: &Row) -> Result<Item, NoMemory> {
     match call {
-        Call::NumberMethod => with_method(alloc, row),
-        Call::NumberTraitMethod => with_trait_method(alloc, row),
-        Call::NumberFields => with_field(alloc, row),
-        _ => function(alloc, row),
+        Call::NumberMethod | Call::TestMethod => with_method(alloc, row),
+        Call::NumberFunction | Call::TestFunction => function(alloc, row),
+        Call::NumberTraitMethod | Call::TestTraitMethod => with_trait_method(alloc, row),
+        Call::NumberFields | Call::TestFields => with_field(alloc, row),
     }
 }
 
@@ -169,4 +176,25 @@ fn trait_methods(rt: HostRuntime) -> Result<(), NoMemory> {
 #[test]
 fn fields(rt: HostRuntime) -> Result<(), NoMemory> {
     compare(&rt, rt.alloc(), Call::NumberFields, &FIELDS)
+}
+
+fn compare_tested(rt: &impl Abort, alloc: Global, call: Call) -> Result<(), NoMemory> {
+    for (count, expected) in TESTED {
+        let item = declared(alloc, call, &("l", count, 0, expected))?;
+        assert_eq!(rt;
+            asked_of(alloc, call, item)?.as_str(),
+            expected,
+            "of {count}"
+        );
+    }
+    Ok(())
+}
+
+#[test]
+fn tested(rt: HostRuntime) -> Result<(), NoMemory> {
+    let alloc = rt.alloc();
+    compare_tested(&rt, alloc, Call::TestMethod)?;
+    compare_tested(&rt, alloc, Call::TestFunction)?;
+    compare_tested(&rt, alloc, Call::TestTraitMethod)?;
+    compare_tested(&rt, alloc, Call::TestFields)
 }

@@ -377,6 +377,7 @@ fn put_breach(text: &mut String, breach: &Breach<'_>) -> Result<(), NoMemory> {
             text.push_str("LifetimeUnknown ")?;
             text.push_str(name.as_str())
         }
+        Breach::TooManyLifetimes => text.push_str("TooManyLifetimes"),
     }
 }
 
