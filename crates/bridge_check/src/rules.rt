@@ -426,10 +426,8 @@ fn test_module<'a>(
     declared: &'a Module,
 ) -> Result<(), NoMemory>
     requires { number < length env.now }
-    ensures {
-        OnOk result (Reports env.now (tested_in_module number declared.now)
-            reports.old.reports reports.new.reports)
-    }
+    ensures { OnOk result (Reports env.now (tested_in_module number declared.now)
+        reports.old.reports reports.new.reports) }
 {
     let path = declared.path.as_slice();
     test_items(alloc, reports, number, path, env, declared.items.as_slice())

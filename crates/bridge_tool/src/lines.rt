@@ -11,9 +11,8 @@ use std::alloc::Global;
 
 /// Adds the two lines of a report.
 fn push_report(alloc: Global, text: &mut String, report: &LoweringReport) -> Result<(), NoMemory>
-    ensures {
-        OnOk result (string_bytes text.new ≡ string_bytes text.old ++ report_text report.now)
-    }
+    ensures { OnOk result (string_bytes text.new
+        ≡ string_bytes text.old ++ report_text report.now) }
 {
     text.push_str(report.to_string(alloc)?.as_str())
 }

@@ -23,13 +23,11 @@ impl<'env, F> Model for SubtypeLifetimeVisitor<'env, F> {
 
     ghost Value = { Visitor F };
 
-    ghost view = {
-        λ it. record {
-            environment = it.walker.environment;
-            visited = it.walker.reached;
-            visit_fn = it.visit_fn
-        }
-    };
+    ghost view = { λ it. record {
+      environment = it.walker.environment;
+      visited = it.walker.reached;
+      visit_fn = it.visit_fn;
+    } };
 
     ghost invariant = { λ it. HasVisited it.walker };
 }
