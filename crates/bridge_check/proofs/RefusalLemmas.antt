@@ -1,18 +1,17 @@
 -- From the tests that failed to the reports of the rules that are broken.
-use Rattle.std.proofs.Common.{◌≡◌, ◌≤◌, ℕ, zero, suc, Bool, true, false, List, [], ◌∷◌, length, map, refl, sym, ◌∙◌, ap, subst, arith, inl, inr}
-use Rattle.std.specs.Prelude.{◌==◌, Contains}
-use Rattle.std.proofs.lemmas.Bool.{eqb-true}
-use Rattle.std.proofs.lemmas.List.{length-map}
+use Rattle.std.proofs.Common.{◌≡◌, ◌≤◌, ℕ, zero, suc, List, [], ◌∷◌, length, map, sym, ◌∙◌, ap, subst, arith, inl, inr}
+use Rattle.std.specs.Prelude.{Contains}
 use Rattle.bridge_decl.specs.declared.modules.Module.{Module}
 use Rattle.hir_reports.specs.declared.places.ErrorContext.{ErrorContext}
+use Rattle.hir_reports.specs.declared.report.LoweringError.{LoweringError}
 use Rattle.hir_reports.specs.declared.report.LoweringReport.{LoweringReport}
 use Rattle.hir_reports.specs.declared.rule.Rule.{Rule}
+use Rattle.hir_reports.specs.Store.{told_at}
 use Rattle.bridge_check.specs.Breaks.{Breaks, BreakNothing}
-use Rattle.bridge_check.specs.Checks.{Check, name, path, lifetime, Tested, Fails, tested_in}
+use Rattle.bridge_check.specs.Checks.{Tested, TestFails, tested_in}
 use Rattle.bridge_check.specs.Chosen.{Chosen}
-use Rattle.bridge_check.specs.Refused.{AreRefusedBy, failure_of, report_of, reported}
+use Rattle.bridge_check.specs.Refused.{AreRefusedBy, report_of, reported}
 use Rattle.bridge_check.specs.inside.Reporting.{Appends}
-use Rattle.bridge_check.specs.Checks.{TestFails}
 use Rattle.bridge_check.proofs.TestLemmas.{contains_first, contains_later, contains_map, keeps_rules, test_breaks}
 
 -- the first is chosen, and others after it
@@ -43,37 +42,25 @@ contained_in_map f (x ∷ xs) y (zero, lt, is) = (x, contains_first x xs, is)
 contained_in_map f (x ∷ xs) y (suc k, lt, is) = let rest = contained_in_map f xs y (k, omega arith, is) in (rest.0, contains_later x rest.0 xs rest.1, rest.2)
 
 -- each report names a broken rule
-each_breaks : (modules : List Module) (failed : List Tested) → Chosen (TestFails modules) (tested_in modules) failed → (report : LoweringReport) → Contains (map reported failed) report
+each_breaks : (modules : List Module) (failed : List Tested) → Chosen (TestFails modules) (tested_in modules) failed → (report : LoweringReport) → Contains (map (reported modules) failed) report
     → Breaks modules report.error.rule report.context report.error.args
 each_breaks modules failed chosen report there =
-    let from = contained_in_map reported failed report there in
+    let from = contained_in_map (reported modules) failed report there in
     let holds = chosen_holds (TestFails modules) (tested_in modules) failed from.0 chosen from.1 in
     subst (λ (r : LoweringReport). Breaks modules r.error.rule r.context r.error.args) from.2 (test_breaks modules from.0.number from.0.place from.0.check holds.0 holds.1)
 
--- the report of a test that fails, with its rule and its arguments in other words
-report_there : (modules : List Module) (failed : List Tested) → Chosen (TestFails modules) (tested_in modules) failed → (number : ℕ) (place : ErrorContext) (broken : Rule)
-    (args : List (List ℕ)) (check : Check) → Contains (tested_in modules) (record { number = number; place = place; check = check }) → Fails modules number check
-    → broken ≡ (failure_of check).rule → args ≡ (failure_of check).args → Contains (map reported failed) (report_of broken place args)
-report_there modules failed chosen number place broken args check there fails rule_is args_are =
-    let t : Tested = record { number = number; place = place; check = check } in
-    let in_failed = chosen_has (TestFails modules) (tested_in modules) failed t chosen there fails in
-    subst (λ (a : List (List ℕ)). Contains (map reported failed) (report_of broken place a)) (sym args_are)
-    (subst (λ (r : Rule). Contains (map reported failed) (report_of r place (failure_of check).args)) (sym rule_is) (contains_map reported failed t in_failed))
-
 -- each broken rule is reported
 every_reported : (modules : List Module) (failed : List Tested) → Chosen (TestFails modules) (tested_in modules) failed → (broken : Rule) (place : ErrorContext) (args : List (List ℕ))
-    → Breaks modules broken place args → Contains (map reported failed) (report_of broken place args)
-every_reported modules failed chosen broken place args (inl b) =
-    report_there modules failed chosen b.1.number place broken args (name b.1.name_there) b.1.stands b.1.broken b.0 b.1.arguments
-every_reported modules failed chosen broken place args (inr (inl b)) =
-    report_there modules failed chosen b.1.number place broken args (path b.1.path_there) b.1.stands b.1.broken b.0 b.1.arguments
-every_reported modules failed chosen broken place args (inr (inr b)) =
-    report_there modules failed chosen b.1.number place broken args (lifetime b.1.env b.1.used) b.1.stands b.1.broken b.0 b.1.arguments
+    → Breaks modules broken place args → Contains (map (reported modules) failed) (report_of broken place args)
+every_reported modules failed chosen broken place args b =
+    let t : Tested = record { number = b.number; place = place; check = b.check } in
+    let in_failed = chosen_has (TestFails modules) (tested_in modules) failed t chosen b.stands b.fails in
+    subst (λ (error : LoweringError). Contains (map (reported modules) failed) (told_at place error)) b.error (contains_map (reported modules) failed t in_failed)
 
 -- the reports of tests that fail refuse the declarations
-pub refused_by_reports : (modules : List Module) (reports told : List LoweringReport) → reports ≡ told → Appends (TestFails modules) reported (tested_in modules) [] told
+pub refused_by_reports : (modules : List Module) (reports told : List LoweringReport) → reports ≡ told → Appends (TestFails modules) (reported modules) (tested_in modules) [] told
     → 1 ≤ length reports → AreRefusedBy modules reports
-refused_by_reports modules reports told same all some = let is : reports ≡ map reported all.chosen = same ∙ all.appended in record {
+refused_by_reports modules reports told same all some = let is : reports ≡ map (reported modules) all.chosen = same ∙ all.appended in record {
   some = some;
   each = λ report there. each_breaks modules all.chosen all.are report (subst (λ l. Contains l report) is there);
   every = λ broken place args breaks. subst (λ l. Contains l (report_of broken place args)) (sym is) (every_reported modules all.chosen all.are broken place args breaks);
@@ -82,11 +69,11 @@ refused_by_reports modules reports told same all some = let is : reports ≡ map
   in_order = is;
 }
 
-none_chosen : (modules : List Module) (failed : List Tested) → [] ≡ map reported failed → Chosen (TestFails modules) (tested_in modules) failed → BreakNothing modules
+none_chosen : (modules : List Module) (failed : List Tested) → [] ≡ map (reported modules) failed → Chosen (TestFails modules) (tested_in modules) failed → BreakNothing modules
 none_chosen modules [] is chosen = keeps_rules modules chosen
-none_chosen modules (test ∷ failed) is chosen = absurd (let e : 0 ≡ length (map reported (test ∷ failed)) = ap length is in omega arith)
+none_chosen modules (test ∷ failed) is chosen = absurd (let e : 0 ≡ length (map (reported modules) (test ∷ failed)) = ap length is in omega arith)
 
 -- without a report no rule is broken
-pub kept_without_reports : (modules : List Module) (reports told : List LoweringReport) → reports ≡ told → Appends (TestFails modules) reported (tested_in modules) [] told
+pub kept_without_reports : (modules : List Module) (reports told : List LoweringReport) → reports ≡ told → Appends (TestFails modules) (reported modules) (tested_in modules) [] told
     → reports ≡ [] → BreakNothing modules
 kept_without_reports modules reports told same all none = none_chosen modules all.chosen (sym none ∙ same ∙ all.appended) all.are

@@ -1,7 +1,6 @@
 -- The methods of modules that fit together have lifetimes that fit together.
-use Rattle.std.proofs.Common.{ℕ, ◌<◌, List, []}
+use Rattle.std.proofs.Common.{List, []}
 use Rattle.std.specs.Prelude.{All}
-use Rattle.std.specs.List.{AllByRecursion}
 use Rattle.std.proofs.lemmas.List.Elements.{All-from_recursion}
 use Rattle.bridge_decl.specs.declared.methods.Method.{Method}
 use Rattle.bridge_decl.specs.declared.modules.Item.{Item}

@@ -1,5 +1,5 @@
 -- From the tests that failed to the rules that are broken.
-use Rattle.std.proofs.Common.{◌≡◌, ℕ, zero, suc, ◌<◌, length, List, [], ◌∷◌, ◌++◌, map, get_or, Some, Err, refl, sym, subst, arith, inl, inr}
+use Rattle.std.proofs.Common.{◌≡◌, ℕ, zero, suc, ◌<◌, length, List, [], ◌∷◌, map, get_or, Some, None, refl, sym, subst, arith, inl, inr}
 use Rattle.std.specs.Prelude.{All, Contains}
 use Rattle.std.specs.List.{flat_map}
 use Rattle.std.proofs.lemmas.List.Concat.{flat_map-cons}
@@ -13,12 +13,9 @@ use Rattle.bridge_decl.specs.Lifetimes.{lifetime_names}
 use Rattle.bridge_decl.specs.Names.{item_name}
 use Rattle.hir_reports.specs.declared.places.ErrorContext.{ErrorContext}
 use Rattle.hir_reports.specs.Store.{at_place}
-use Rattle.hir_reports.specs.declared.rule.Rule.TheVariants as rule
 use Rattle.bridge_check.specs.Breaks.{Breaks, BreakNothing}
-use Rattle.bridge_check.specs.Checks.{Check, name, path, lifetime, Fails, Tested, tested_at_number, tested_in, tested_in_module, tested_in_item, tested_in_method, method_checks, method_names, method_paths}
+use Rattle.bridge_check.specs.Checks.{Check, name, name_checks, Fails, failure_of, TestFails, Tested, tested_at_number, tested_in, tested_in_module, tested_in_item, tested_in_method, method_checks, method_names}
 use Rattle.bridge_check.specs.Chosen.{Chosen}
-use Rattle.bridge_check.specs.Refused.{failure_of}
-use Rattle.bridge_check.specs.Checks.{TestFails}
 use Rattle.bridge_check.specs.inside.Signatures.{HasNamedItems}
 use Rattle.bridge_check.specs.Methods.{methods_of}
 use Rattle.bridge_check.specs.Order.{module_order}
@@ -52,19 +49,13 @@ chosen_none P (y ∷ ys) x (inr h) (suc k, lt, is) = chosen_none P ys x h.1 (k, 
 
 -- where no test fails no rule is broken
 pub keeps_rules : (modules : List Module) → Chosen (TestFails modules) (tested_in modules) [] → BreakNothing modules
-keeps_rules modules none broken place args (inl b) =
-    chosen_none (TestFails modules) (tested_in modules) (record { number = b.1.number; place = place; check = name b.1.name_there }) none b.1.stands b.1.broken
-keeps_rules modules none broken place args (inr (inl b)) =
-    chosen_none (TestFails modules) (tested_in modules) (record { number = b.1.number; place = place; check = path b.1.path_there }) none b.1.stands b.1.broken
-keeps_rules modules none broken place args (inr (inr b)) =
-    chosen_none (TestFails modules) (tested_in modules) (record { number = b.1.number; place = place; check = lifetime b.1.env b.1.used }) none b.1.stands b.1.broken
+keeps_rules modules none broken place args b =
+    chosen_none (TestFails modules) (tested_in modules) (record { number = b.number; place = place; check = b.check }) none b.stands b.fails
 
 -- a test that fails breaks its rule
 pub test_breaks : (modules : List Module) (number : ℕ) (place : ErrorContext) (check : Check) → Contains (tested_in modules) (record { number = number; place = place; check = check })
-    → Fails modules number check → Breaks modules (failure_of check).rule place (failure_of check).args
-test_breaks modules number place (name n) there fails = inl (refl, record { number = number; name_there = n; stands = there; broken = fails; arguments = refl })
-test_breaks modules number place (path p) there fails = inr (inl (refl, record { number = number; path_there = p; stands = there; broken = fails; arguments = refl }))
-test_breaks modules number place (lifetime env l) there fails = inr (inr (refl, record { number = number; env = env; used = l; stands = there; broken = fails; arguments = refl }))
+    → Fails modules number check → Breaks modules (failure_of modules number check).rule place (failure_of modules number check).args
+test_breaks modules number place check there fails = record { number = number; check = check; stands = there; fails = fails; error = refl }
 
 -- what is tested in a module is tested
 tested_there : (modules : List Module) (i : ℕ) (d : Module) (test : Tested) → i < length modules
@@ -81,12 +72,12 @@ name_is_tested number m item method n item_there method_there name_there =
     let own : Contains (method_names method) n =
     contains_later method.name n _ (Contains-append_right (map (λ param. param.name) method.params) (lifetime_names method.lifetime_env) n name_there) in
     let check : Contains (method_checks method) (name n) =
-    Contains-append_left (map name (method_names method)) (map path (method_paths method) ++ map (lifetime method.lifetime_env) _) (name n) (contains_map name (method_names method) n own) in
+    Contains-append_left (flat_map name_checks (method_names method)) _ (name n) (contains_flat_map name_checks (method_names method) n (name n) own (0, omega arith, refl)) in
     let in_method : Contains (tested_in_method number m.path (item_name item) method)
     (record { number = number; place = at_place m.path (item_name item) (Some method.name); check = name n }) =
     contains_map (λ c. record { number = number; place = at_place m.path (item_name item) (Some method.name); check = c }) (method_checks method) (name n) check in
     contains_flat_map (tested_in_item number m.path) m.items item _ item_there
-    (contains_later _ _ _ (contains_flat_map (tested_in_method number m.path (item_name item)) (methods_of item) method _ method_there in_method))
+    (Contains-append_right (map (λ c. record { number = number; place = at_place m.path (item_name item) None; check = c }) (name_checks (item_name item))) _ _ (contains_flat_map (tested_in_method number m.path (item_name item)) (methods_of item) method _ method_there in_method))
 
 -- where no rule is broken, each lifetime's name passes
 pub names_pass : (modules : List Module) → BreakNothing modules → All HasNamedItems modules
@@ -103,4 +94,4 @@ names_pass modules keeps h module_d module_lt i item_d item_lt j method_d method
     name_is_tested h m item method n (Contains-get_or m.items i item_d item_lt) (Contains-get_or (methods_of item) j method_d method_lt)
     (contains_map (λ (node : LifetimeNode). node.name) nodes (get_or nodes k node_d) (Contains-get_or nodes k node_d node_lt)) in
     let there = tested_there modules h module_d test module_lt in_module in
-    keeps rule.BadIdent place (n ∷ []) (test_breaks modules h place (name n) there bad)))
+    keeps _ place _ (test_breaks modules h place (name n) there bad)))

@@ -1,6 +1,6 @@
 -- What rules test: the names, paths and lifetimes of declarations, each with the place where it stands.
 use Rattle.std.specs.Prelude.{ℕ, List, [], ◌∷◌, ◌++◌, map, Option, Some, None, slice_get}
-use Rattle.std.specs.List.{flat_map, Contains}
+use Rattle.std.specs.List.{flat_map}
 use Rattle.bridge_decl.specs.declared.lifetimes.Lifetime.{Lifetime}
 use Rattle.bridge_decl.specs.declared.lifetimes.Lifetime.TheVariants.{Static, Named, Anonymous}
 use Rattle.bridge_decl.specs.declared.lifetimes.LifetimeEnv.{LifetimeEnv}
@@ -10,15 +10,17 @@ use Rattle.bridge_decl.specs.declared.types.TypeName.{TypeName, out-TypeName}
 use Rattle.bridge_decl.specs.declared.types.TypeName.TheOpen.{TypeName-F}
 use Rattle.bridge_decl.specs.declared.methods.Method.{Method}
 use Rattle.bridge_decl.specs.declared.methods.SelfParam.{SelfParam}
-use Rattle.bridge_ast.specs.declared.place.ItemPlace.{ItemPlace}
 use Rattle.bridge_decl.specs.declared.modules.Item.{Item}
 use Rattle.bridge_decl.specs.declared.modules.Module.{Module}
 use Rattle.bridge_decl.specs.Lifetimes.{lifetime_names}
-use Rattle.bridge_text.specs.Ident.{IsIdent}
 use Rattle.bridge_decl.specs.Names.{item_name}
 use Rattle.hir_reports.specs.declared.places.ErrorContext.{ErrorContext}
+use Rattle.hir_reports.specs.declared.report.LoweringError.{LoweringError}
 use Rattle.hir_reports.specs.Store.{at_place}
-use Rattle.bridge_ast.specs.Types.{NamesType}
+use Rattle.bridge_check.specs.Test.{Test}
+use Rattle.bridge_check.specs.rules.BadIdent.{bad_ident}
+use Rattle.bridge_check.specs.rules.UnresolvedPath.{unresolved_path}
+use Rattle.bridge_check.specs.rules.LifetimeUnknown.{lifetime_unknown}
 use Rattle.bridge_check.specs.Methods.{methods_of}
 use Rattle.bridge_check.specs.Order.{of_found, module_order}
 
@@ -30,6 +32,20 @@ pub data Check : Type 0 where
   path : PathType → Check
   -- the use of a lifetime, which its environment has to declare
   lifetime : LifetimeEnv → List ℕ → Check
+
+-- the rules: what each says of what it tests, in the module of a number
+abbrev pub test_of : List Module → ℕ → Check → Test
+test_of modules number (name n) = bad_ident n
+test_of modules number (path p) = unresolved_path modules number p
+test_of modules number (lifetime env l) = lifetime_unknown env l
+
+-- the check fails: the rule is broken
+abbrev pub Fails : List Module → ℕ → Check → Type 0
+Fails modules number check = (test_of modules number check).Broken
+
+-- what is told where it fails
+abbrev pub failure_of : List Module → ℕ → Check → LoweringError
+failure_of modules number check = (test_of modules number check).error
 
 -- one level of a type
 abbrev pub Layer : Type 0
@@ -79,6 +95,16 @@ abbrev pub returned_lifetimes : Option TypeName → List Lifetime
 returned_lifetimes None = []
 returned_lifetimes (Some t) = type_lifetimes (out-TypeName t)
 
+-- what is tested of a name, of a path and of a lifetime, in order
+abbrev pub name_checks : List ℕ → List Check
+name_checks n = name n ∷ []
+
+abbrev pub path_checks : PathType → List Check
+path_checks p = path p ∷ []
+
+abbrev pub lifetime_checks : LifetimeEnv → Lifetime → List Check
+lifetime_checks env l = map (lifetime env) (lifetime_name l)
+
 -- the names that a method brings: its own, its parameters' and its lifetimes'
 abbrev pub method_names : Method → List (List ℕ)
 method_names method = method.name ∷ (map (λ param. param.name) method.params ++ lifetime_names method.lifetime_env)
@@ -97,8 +123,8 @@ method_lifetimes method =
 
 abbrev pub method_checks : Method → List Check
 method_checks method =
-    map name (method_names method)
-    ++ (map path (method_paths method) ++ map (lifetime method.lifetime_env) (flat_map lifetime_name (method_lifetimes method)))
+    flat_map name_checks (method_names method)
+    ++ (flat_map path_checks (method_paths method) ++ flat_map (lifetime_checks method.lifetime_env) (method_lifetimes method))
 
 -- what is tested, and where: the number of the module, and the place
 pub record Tested : Type 0 where
@@ -113,8 +139,8 @@ tested_in_method number above item method =
 -- the name of an item, and then what its methods have
 abbrev pub tested_in_item : ℕ → List (List ℕ) → Item → List Tested
 tested_in_item number above item =
-    record { number = number; place = at_place above (item_name item) None; check = name (item_name item) }
-    ∷ flat_map (tested_in_method number above (item_name item)) (methods_of item)
+    map (λ check. record { number = number; place = at_place above (item_name item) None; check = check }) (name_checks (item_name item))
+    ++ flat_map (tested_in_method number above (item_name item)) (methods_of item)
 
 abbrev pub tested_in_module : ℕ → Module → List Tested
 tested_in_module number m = flat_map (tested_in_item number m.path) m.items
@@ -126,12 +152,6 @@ tested_at_number modules number = of_found (tested_in_module number) (slice_get 
 -- all that the rules test, in the order in which modules are gone through, and in each of the items
 abbrev pub tested_in : List Module → List Tested
 tested_in modules = flat_map (tested_at_number modules) (module_order modules)
-
--- the check fails in the module of a number: the name is no identifier, the path names no type there, or the lifetime isn't declared
-abbrev pub Fails : List Module → ℕ → Check → Type 0
-Fails modules number (name n) = ¬ (IsIdent n)
-Fails modules number (path p) = (item : Item) (named : ItemPlace) → ¬ NamesType modules number p.segments item named
-Fails modules number (lifetime env l) = ¬ (Contains (lifetime_names env) l)
 
 -- the test fails
 abbrev pub TestFails : List Module → Tested → Type 0

@@ -6,6 +6,7 @@ pub mod Methods
 pub mod Order
 pub mod Page
 pub mod Refused
+pub mod Test
 pub mod Tested
 pub mod inside
 pub mod rules

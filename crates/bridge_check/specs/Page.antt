@@ -1,5 +1,5 @@
 -- The page that is printed for accepted declarations.
-use Rattle.std.specs.Prelude.{◌≡◌, ℕ, List, [], ◌∷◌, ◌++◌, ◌==◌, length, map, slice_index_or, codes, decimal, Option, Some, None, true, false, Bool}
+use Rattle.std.specs.Prelude.{◌≡◌, ℕ, List, [], ◌∷◌, ◌++◌, ◌==◌, length, map, slice_index_or, codes, decimal, true, false, Bool}
 use Rattle.std.specs.List.{flat_map, join_by}
 use Rattle.bridge_decl.specs.declared.methods.Method.{Method}
 use Rattle.bridge_decl.specs.declared.modules.Module.{Module}

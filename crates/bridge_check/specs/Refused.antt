@@ -1,32 +1,19 @@
 -- The reports of declarations that break a rule.
-use Rattle.std.specs.Prelude.{◌≡◌, ◌≤◌, ℕ, List, [], ◌∷◌, ◌++◌, length, map, codes, decimal, Contains}
+use Rattle.std.specs.Prelude.{◌≡◌, ◌≤◌, ℕ, List, ◌++◌, length, map, codes, decimal, Contains}
 use Rattle.std.specs.List.{flat_map}
 use Rattle.bridge_decl.specs.declared.modules.Module.{Module}
-use Rattle.bridge_decl.specs.Names.{path_text}
 use Rattle.hir_reports.specs.declared.places.ErrorContext.{ErrorContext}
-use Rattle.hir_reports.specs.declared.report.LoweringError.{LoweringError}
 use Rattle.hir_reports.specs.declared.report.LoweringReport.{LoweringReport}
 use Rattle.hir_reports.specs.declared.rule.Rule.{Rule}
-use Rattle.hir_reports.specs.declared.rule.Rule.TheVariants as rule
 use Rattle.hir_reports.specs.Store.{told_at}
 use Rattle.hir_reports.specs.Texts.{report_text}
 use Rattle.bridge_check.specs.Breaks.{Breaks}
-use Rattle.bridge_check.specs.Checks.{Check, name, path, lifetime, Tested, TestFails, tested_in}
+use Rattle.bridge_check.specs.Checks.{failure_of, Tested, TestFails, tested_in}
 use Rattle.bridge_check.specs.Chosen.{Chosen}
 
--- a rule with the one argument of its text
-abbrev pub error_about : Rule → List ℕ → LoweringError
-error_about broken arg = record { rule = broken; args = arg ∷ [] }
-
--- what is told where a check fails
-abbrev pub failure_of : Check → LoweringError
-failure_of (name n) = error_about rule.BadIdent n
-failure_of (path p) = error_about rule.UnresolvedPath (path_text p)
-failure_of (lifetime env l) = error_about rule.LifetimeUnknown l
-
 -- a failed test as a report
-abbrev pub reported : Tested → LoweringReport
-reported tested = told_at tested.place (failure_of tested.check)
+abbrev pub reported : List Module → Tested → LoweringReport
+reported modules tested = told_at tested.place (failure_of modules tested.number tested.check)
 
 -- a report of a broken rule at a place
 abbrev pub report_of : Rule → ErrorContext → List (List ℕ) → LoweringReport
@@ -47,4 +34,4 @@ pub record AreRefusedBy (modules : List Module) (reports : List LoweringReport) 
   -- they are those of the tests that fail, each once and in order
   pub failed : List Tested
   pub chosen : Chosen (TestFails modules) (tested_in modules) failed
-  pub in_order : reports ≡ map reported failed
+  pub in_order : reports ≡ map (reported modules) failed

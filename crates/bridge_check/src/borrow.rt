@@ -23,7 +23,7 @@ ghost use Rattle.bridge_check.specs.inside.Signatures.{HasSoundMethods, HasSound
 use crate::borrowing::{
     CallableReport, InputPlace, LeafPath, ReportEdge, ReportEdgeKind, ReturnedLifetime,
 };
-use crate::declarations::{methods, receiver_lifetime, written_lifetime};
+use crate::declarations::{methods, receiver_lifetime, return_lifetime, written_lifetime};
 use bridge_ast::{
     IdentFault, Item, Lifetime as WrittenLifetime, LifetimeEnv as Declaration, Method, Module,
     NoMemory, Param, TypeName,
@@ -196,11 +196,8 @@ fn returned_number(names: &NameIndex<usize>, method: &Method) -> Option<usize>
     ensures { Indexes names.now (lifetime_names method.now.lifetime_env)
         → option_to_list result ≡ returned_numbers method.now }
 {
-    match &method.return_type {
-        Some(ty) => match written_lifetime(ty) {
-            Some(lifetime) => number_in(names, lifetime),
-            None => None,
-        },
+    match return_lifetime(&method.return_type) {
+        Some(lifetime) => number_in(names, lifetime),
         None => None,
     }
 }

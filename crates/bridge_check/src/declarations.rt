@@ -3,7 +3,7 @@
 ghost use Rattle.std.specs.Prelude.{◌≡◌, option_to_list};
 ghost use Rattle.std.specs.Option.{option_copied};
 ghost use Rattle.bridge_decl.specs.declared.types.TypeName.{out-TypeName};
-ghost use Rattle.bridge_check.specs.Checks.{own_paths, type_paths, type_lifetimes, borrow_lifetimes, receiver_lifetimes};
+ghost use Rattle.bridge_check.specs.Checks.{own_paths, type_paths, type_lifetimes, borrow_lifetimes, receiver_lifetimes, receiver_paths, returned_paths, returned_lifetimes};
 ghost use Rattle.bridge_check.specs.Methods.{methods_of};
 
 use bridge_ast::{Item, Lifetime, Method, Mutability, PathType, SelfParam, TypeName};
@@ -66,6 +66,36 @@ pub fn receiver_lifetime(receiver: &Option<SelfParam>) -> Option<&Lifetime>
 {
     match receiver {
         Some(receiver) => borrow_lifetime(&receiver.reference),
+        None => None,
+    }
+}
+
+/// The path of the type that a receiver stands for.
+pub fn receiver_path(receiver: &Option<SelfParam>) -> Option<&PathType>
+    ensures { option_to_list (option_copied result) ≡ receiver_paths receiver.now }
+{
+    match receiver {
+        Some(receiver) => Some(&receiver.path_type),
+        None => None,
+    }
+}
+
+/// The path that is written in a return.
+pub fn return_path(returned: &Option<TypeName>) -> Option<&PathType>
+    ensures { option_to_list (option_copied result) ≡ returned_paths returned.now }
+{
+    match returned {
+        Some(ty) => written_path(ty),
+        None => None,
+    }
+}
+
+/// The lifetime that is written in a return.
+pub fn return_lifetime(returned: &Option<TypeName>) -> Option<&Lifetime>
+    ensures { option_to_list (option_copied result) ≡ returned_lifetimes returned.now }
+{
+    match returned {
+        Some(ty) => written_lifetime(ty),
         None => None,
     }
 }

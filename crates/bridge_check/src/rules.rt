@@ -1,22 +1,26 @@
 //! The rules that declarations have to keep.
 
-ghost use Rattle.std.specs.Prelude.{◌≡◌, ◌<◌, ◌≤◌, ℕ, List, [], ◌∷◌, ◌++◌, map, OnOk, IfOk, MatchBool, length, Contains};
+ghost use Rattle.std.specs.Prelude.{◌≡◌, ◌<◌, ◌≤◌, ℕ, List, [], OnOk, IfOk, MatchBool, length, Contains, option_to_list};
 ghost use Rattle.std.specs.List.{flat_map};
+ghost use Rattle.std.specs.Option.{option_copied};
 ghost use Rattle.bridge_decl.specs.declared.modules.Module.{Module as Declared};
 ghost use Rattle.bridge_decl.specs.declared.types.TypeName.{out-TypeName};
 ghost use Rattle.bridge_decl.specs.Lifetimes.{lifetime_names};
-ghost use Rattle.bridge_check.specs.Checks.{name, path, lifetime, Fails, type_paths, type_lifetimes, lifetime_name, method_names, method_paths, method_lifetimes, receiver_paths, receiver_lifetimes, returned_paths, returned_lifetimes, tested_in_method, tested_in_item, tested_in_module, tested_in, tested_at_number};
+ghost use Rattle.bridge_check.specs.Checks.{path, Fails, type_paths, type_lifetimes, method_names, method_paths, method_lifetimes, tested_in_method, tested_in_item, tested_in_module, tested_in, tested_at_number};
 ghost use Rattle.bridge_text.specs.NameIndex.{Indexes};
 ghost use Rattle.bridge_check.specs.Breaks.{BreakNothing};
 ghost use Rattle.bridge_check.specs.Refused.{AreRefusedBy};
 ghost use Rattle.bridge_check.specs.Order.{module_order};
-ghost use Rattle.bridge_check.specs.inside.Reporting.{tested_at, Reports};
+ghost use Rattle.bridge_check.specs.inside.Reporting.{name_tests, path_tests, lifetime_tests, Reports};
 
-use crate::declarations::{methods, receiver_lifetime, written_lifetime, written_path};
+use crate::declarations::{
+    methods, receiver_lifetime, receiver_path, return_lifetime, return_path, written_lifetime,
+    written_path,
+};
 use crate::spot::{Spot, text_of};
 use bridge_ast::{
     Env, Item, Lifetime, LifetimeEnv, LifetimeNode, Method, Module, NoMemory, Param, PathType,
-    SelfParam, Text, TypeName, is_ident, name_of,
+    Text, is_ident, name_of,
 };
 use bridge_decl::{NameIndex, index_lifetimes};
 use hir_reports::{ErrorStore, LoweringReport, Rule};
@@ -30,9 +34,8 @@ fn test_name<'a>(
     spot: Spot<'a>,
     ident: &'a Text,
 ) -> Result<(), NoMemory>
-    ensures { (modules : List Declared) → OnOk result
-        (Reports modules (tested_at spot.entry (name ident.now) ∷ []) reports.old.reports
-        reports.new.reports) }
+    ensures { (modules : List Declared) → OnOk result (Reports modules
+        (name_tests spot.entry ident.now) reports.old.reports reports.new.reports) }
 {
     if !is_ident(ident.as_str()) {
         spot.tell(alloc, reports, Rule::BadIdent, ident.as_str())?;
@@ -52,21 +55,24 @@ fn names_nothing(env: &Env, number: usize, named: &PathType) -> bool
     }
 }
 
-/// Tests the rule UnresolvedPath of a path.
+/// Tests the rule UnresolvedPath of a path, where there is one.
 fn test_path<'a>(
     alloc: Global,
     reports: &mut ErrorStore<'a>,
     spot: Spot<'a>,
     env: &Env,
-    named: &'a PathType,
+    named: Option<&'a PathType>,
 ) -> Result<(), NoMemory>
     requires { spot.number < length env.now }
-    ensures { OnOk result (Reports env.now (tested_at spot.entry (path named.now) ∷ [])
+    ensures { OnOk result (Reports env.now
+        (flat_map (path_tests spot.entry) (option_to_list (option_copied named.entry)))
         reports.old.reports reports.new.reports) }
 {
-    if names_nothing(env, spot.number, named) {
-        let text = text_of(alloc, named)?;
-        spot.tell(alloc, reports, Rule::UnresolvedPath, text.as_str())?;
+    if let Some(named) = named {
+        if names_nothing(env, spot.number, named) {
+            let text = text_of(alloc, named)?;
+            spot.tell(alloc, reports, Rule::UnresolvedPath, text.as_str())?;
+        }
     }
     Ok(())
 }
@@ -79,22 +85,25 @@ fn declares(names: &NameIndex<usize>, used: &Text) -> bool
     names.contains_key(used)
 }
 
-/// Tests the rule LifetimeUnknown of a lifetime.
+/// Tests the rule LifetimeUnknown of a lifetime, where there is one with a name.
 fn test_lifetime<'a>(
     alloc: Global,
     reports: &mut ErrorStore<'a>,
     spot: Spot<'a>,
     names: &NameIndex<usize>,
     env: &'a LifetimeEnv,
-    used: &'a Lifetime,
+    used: Option<&'a Lifetime>,
 ) -> Result<(), NoMemory>
     ensures { (all : List Declared) → Indexes names.now (lifetime_names env.now)
-        → OnOk result (Reports all (map (λ l. tested_at spot.entry (lifetime env.now l))
-        (lifetime_name used.now)) reports.old.reports reports.new.reports) }
+        → OnOk result (Reports all
+        (flat_map (lifetime_tests spot.entry env.now) (option_to_list (option_copied used.entry)))
+        reports.old.reports reports.new.reports) }
 {
-    if let Lifetime::Named(used) = used {
-        if !declares(names, used) {
-            spot.tell(alloc, reports, Rule::LifetimeUnknown, used.as_str())?;
+    if let Some(used) = used {
+        if let Lifetime::Named(used) = used {
+            if !declares(names, used) {
+                spot.tell(alloc, reports, Rule::LifetimeUnknown, used.as_str())?;
+            }
         }
     }
     Ok(())
@@ -106,8 +115,8 @@ fn test_param_names<'a>(
     spot: Spot<'a>,
     params: &'a [Param],
 ) -> Result<(), NoMemory>
-    ensures { (all : List Declared) → OnOk result
-        (Reports all (flat_map (λ param. tested_at spot.entry (name param.name) ∷ []) params.now)
+    ensures { (all : List Declared) → OnOk result (Reports all
+        (flat_map (λ param. name_tests spot.entry param.name) params.now)
         reports.old.reports reports.new.reports) }
 {
     for param in params {
@@ -122,31 +131,14 @@ fn test_lifetime_names<'a>(
     spot: Spot<'a>,
     nodes: &'a [LifetimeNode],
 ) -> Result<(), NoMemory>
-    ensures { (all : List Declared) → OnOk result
-        (Reports all (flat_map (λ node. tested_at spot.entry (name node.name) ∷ []) nodes.now)
+    ensures { (all : List Declared) → OnOk result (Reports all
+        (flat_map (λ node. name_tests spot.entry node.name) nodes.now)
         reports.old.reports reports.new.reports) }
 {
     for node in nodes {
         test_name(alloc, reports, spot, &node.name)?;
     }
     Ok(())
-}
-
-fn test_type_path<'a>(
-    alloc: Global,
-    reports: &mut ErrorStore<'a>,
-    spot: Spot<'a>,
-    env: &Env,
-    ty: &'a TypeName,
-) -> Result<(), NoMemory>
-    requires { spot.number < length env.now }
-    ensures { OnOk result (Reports env.now (map (λ p. tested_at spot.entry (path p))
-        (type_paths (out-TypeName ty.now))) reports.old.reports reports.new.reports) }
-{
-    match written_path(ty) {
-        Some(named) => test_path(alloc, reports, spot, env, named),
-        None => Ok(()),
-    }
 }
 
 fn test_param_paths<'a>(
@@ -157,33 +149,14 @@ fn test_param_paths<'a>(
     params: &'a [Param],
 ) -> Result<(), NoMemory>
     requires { spot.number < length env.now }
-    ensures { OnOk result
-        (Reports env.now (flat_map (λ param. map (λ p. tested_at spot.entry (path p))
-        (type_paths (out-TypeName param.ty))) params.now) reports.old.reports reports.new.reports) }
+    ensures { OnOk result (Reports env.now
+        (flat_map (λ param. flat_map (path_tests spot.entry) (type_paths (out-TypeName param.ty)))
+        params.now) reports.old.reports reports.new.reports) }
 {
     for param in params {
-        test_type_path(alloc, reports, spot, env, &param.ty)?;
+        test_path(alloc, reports, spot, env, written_path(&param.ty))?;
     }
     Ok(())
-}
-
-fn test_type_lifetime<'a>(
-    alloc: Global,
-    reports: &mut ErrorStore<'a>,
-    spot: Spot<'a>,
-    names: &NameIndex<usize>,
-    env: &'a LifetimeEnv,
-    ty: &'a TypeName,
-) -> Result<(), NoMemory>
-    ensures { (all : List Declared) → Indexes names.now (lifetime_names env.now)
-        → OnOk result (Reports all (map (λ l. tested_at spot.entry (lifetime env.now l))
-        (flat_map lifetime_name (type_lifetimes (out-TypeName ty.now)))) reports.old.reports
-        reports.new.reports) }
-{
-    match written_lifetime(ty) {
-        Some(used) => test_lifetime(alloc, reports, spot, names, env, used),
-        None => Ok(()),
-    }
 }
 
 fn test_param_lifetimes<'a>(
@@ -195,13 +168,13 @@ fn test_param_lifetimes<'a>(
     params: &'a [Param],
 ) -> Result<(), NoMemory>
     ensures { (all : List Declared) → Indexes names.now (lifetime_names env.now)
-        → OnOk result
-        (Reports all (flat_map (λ param. map (λ l. tested_at spot.entry (lifetime env.now l))
-        (flat_map lifetime_name (type_lifetimes (out-TypeName param.ty)))) params.now)
-        reports.old.reports reports.new.reports) }
+        → OnOk result (Reports all (flat_map (λ param.
+        flat_map (lifetime_tests spot.entry env.now) (type_lifetimes (out-TypeName param.ty)))
+        params.now) reports.old.reports reports.new.reports) }
 {
     for param in params {
-        test_type_lifetime(alloc, reports, spot, names, env, &param.ty)?;
+        let used = written_lifetime(&param.ty);
+        test_lifetime(alloc, reports, spot, names, env, used)?;
     }
     Ok(())
 }
@@ -213,47 +186,13 @@ fn test_names<'a>(
     spot: Spot<'a>,
     method: &'a Method,
 ) -> Result<(), NoMemory>
-    ensures { (all : List Declared) → OnOk result
-        (Reports all (map (λ n. tested_at spot.entry (name n)) (method_names method.now))
+    ensures { (all : List Declared) → OnOk result (Reports all
+        (flat_map (name_tests spot.entry) (method_names method.now))
         reports.old.reports reports.new.reports) }
 {
     test_name(alloc, reports, spot, &method.name)?;
     test_param_names(alloc, reports, spot, method.params.as_slice())?;
     test_lifetime_names(alloc, reports, spot, method.lifetime_env.nodes.as_slice())
-}
-
-fn test_receiver_path<'a>(
-    alloc: Global,
-    reports: &mut ErrorStore<'a>,
-    spot: Spot<'a>,
-    env: &Env,
-    receiver: &'a Option<SelfParam>,
-) -> Result<(), NoMemory>
-    requires { spot.number < length env.now }
-    ensures { OnOk result (Reports env.now (map (λ p. tested_at spot.entry (path p))
-        (receiver_paths receiver.now)) reports.old.reports reports.new.reports) }
-{
-    match receiver {
-        Some(receiver) => test_path(alloc, reports, spot, env, &receiver.path_type),
-        None => Ok(()),
-    }
-}
-
-fn test_returned_path<'a>(
-    alloc: Global,
-    reports: &mut ErrorStore<'a>,
-    spot: Spot<'a>,
-    env: &Env,
-    returned: &'a Option<TypeName>,
-) -> Result<(), NoMemory>
-    requires { spot.number < length env.now }
-    ensures { OnOk result (Reports env.now (map (λ p. tested_at spot.entry (path p))
-        (returned_paths returned.now)) reports.old.reports reports.new.reports) }
-{
-    match returned {
-        Some(ty) => test_type_path(alloc, reports, spot, env, ty),
-        None => Ok(()),
-    }
 }
 
 /// Tests the paths that a method writes.
@@ -265,51 +204,14 @@ fn test_paths<'a>(
     method: &'a Method,
 ) -> Result<(), NoMemory>
     requires { spot.number < length env.now }
-    ensures { OnOk result (Reports env.now (map (λ p. tested_at spot.entry (path p))
-        (method_paths method.now)) reports.old.reports reports.new.reports) }
+    ensures { OnOk result (Reports env.now
+        (flat_map (path_tests spot.entry) (method_paths method.now))
+        reports.old.reports reports.new.reports) }
 {
-    test_path(alloc, reports, spot, env, &method.self_type)?;
-    test_receiver_path(alloc, reports, spot, env, &method.self_param)?;
+    test_path(alloc, reports, spot, env, Some(&method.self_type))?;
+    test_path(alloc, reports, spot, env, receiver_path(&method.self_param))?;
     test_param_paths(alloc, reports, spot, env, method.params.as_slice())?;
-    test_returned_path(alloc, reports, spot, env, &method.return_type)
-}
-
-fn test_receiver_lifetime<'a>(
-    alloc: Global,
-    reports: &mut ErrorStore<'a>,
-    spot: Spot<'a>,
-    names: &NameIndex<usize>,
-    env: &'a LifetimeEnv,
-    receiver: &'a Option<SelfParam>,
-) -> Result<(), NoMemory>
-    ensures { (all : List Declared) → Indexes names.now (lifetime_names env.now)
-        → OnOk result (Reports all (map (λ l. tested_at spot.entry (lifetime env.now l))
-        (flat_map lifetime_name (receiver_lifetimes receiver.now))) reports.old.reports
-        reports.new.reports) }
-{
-    match receiver_lifetime(receiver) {
-        Some(used) => test_lifetime(alloc, reports, spot, names, env, used),
-        None => Ok(()),
-    }
-}
-
-fn test_returned_lifetime<'a>(
-    alloc: Global,
-    reports: &mut ErrorStore<'a>,
-    spot: Spot<'a>,
-    names: &NameIndex<usize>,
-    env: &'a LifetimeEnv,
-    returned: &'a Option<TypeName>,
-) -> Result<(), NoMemory>
-    ensures { (all : List Declared) → Indexes names.now (lifetime_names env.now)
-        → OnOk result (Reports all (map (λ l. tested_at spot.entry (lifetime env.now l))
-        (flat_map lifetime_name (returned_lifetimes returned.now))) reports.old.reports
-        reports.new.reports) }
-{
-    match returned {
-        Some(ty) => test_type_lifetime(alloc, reports, spot, names, env, ty),
-        None => Ok(()),
-    }
+    test_path(alloc, reports, spot, env, return_path(&method.return_type))
 }
 
 /// Tests the lifetimes that a method uses.
@@ -321,15 +223,16 @@ fn test_lifetimes<'a>(
     method: &'a Method,
 ) -> Result<(), NoMemory>
     ensures { (all : List Declared) → Indexes names.now (lifetime_names method.now.lifetime_env)
-        → OnOk result
-        (Reports all (map (λ l. tested_at spot.entry (lifetime method.now.lifetime_env l))
-        (flat_map lifetime_name (method_lifetimes method.now))) reports.old.reports
-        reports.new.reports) }
+        → OnOk result (Reports all
+        (flat_map (lifetime_tests spot.entry method.now.lifetime_env)
+        (method_lifetimes method.now)) reports.old.reports reports.new.reports) }
 {
     let env = &method.lifetime_env;
-    test_receiver_lifetime(alloc, reports, spot, names, env, &method.self_param)?;
+    let receiver = receiver_lifetime(&method.self_param);
+    test_lifetime(alloc, reports, spot, names, env, receiver)?;
     test_param_lifetimes(alloc, reports, spot, names, env, method.params.as_slice())?;
-    test_returned_lifetime(alloc, reports, spot, names, env, &method.return_type)
+    let returned = return_lifetime(&method.return_type);
+    test_lifetime(alloc, reports, spot, names, env, returned)
 }
 
 /// Tests the rules in a method of the item of that place.

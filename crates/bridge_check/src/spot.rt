@@ -4,7 +4,7 @@ ghost use Rattle.std.specs.Prelude.{◌≡◌, ◌++◌, ◌∷◌, [], IfOk, On
 ghost use Rattle.bridge_decl.specs.Names.{path_text};
 ghost use Rattle.bridge_outside.specs.Printing.{separator_at};
 ghost use Rattle.hir_reports.specs.Store.{told_at};
-ghost use Rattle.bridge_check.specs.Refused.{error_about};
+ghost use Rattle.bridge_check.specs.Test.{error_about};
 ghost use Rattle.bridge_check.specs.inside.Reporting.{place_at};
 
 use bridge_ast::{NoMemory, PathType, Text};

@@ -10,7 +10,7 @@ pub returns : goal.returns
 returns c =
     let all = c.args.env.now in
     on_ok_weaker c.test_lifetimes.result
-    (method_tested (TestFails all) reported c.args.item.number c.args.item.path.now c.args.item.item.now c.args.method.now
+    (method_tested (TestFails all) (reported all) c.args.item.number c.args.item.path.now c.args.item.item.now c.args.method.now
     (λ check. record {
       number = c.args.item.number;
       place = at_place c.args.item.path.now c.args.item.item.now (Some c.args.method.now.name);

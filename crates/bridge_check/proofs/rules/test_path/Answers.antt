@@ -8,9 +8,10 @@ use Rattle.bridge_check.proofs.rules.test_path.Goals as goal
 
 pub returns-in_ok-tell : goal.returns-in_ok-tell
 returns-in_ok-tell c =
-    let text : c.as_str.result.now ≡ path_text c.args.named.now = c.as_str.ensures.value ∙ c.in_ok-text.ensures in
-    appends_failed (TestFails c.args.env.now) reported (tested_at c.args.spot (path c.args.named.now)) _ _ (rw text at c.in_ok-tell.ensures) c.if-names_nothing.ensures
+    let text : c.as_str.result.now ≡ path_text c.in-Some.named.now = c.as_str.ensures.value ∙ c.in_ok-text.ensures in
+    rw c.in-Some.is
+    (appends_failed (TestFails c.args.env.now) (reported c.args.env.now) (tested_at c.args.spot (path c.in-Some.named.now)) _ _ (rw text at c.in_ok-tell.ensures) c.if-names_nothing.ensures)
 
 pub returns-else-names_nothing : goal.returns-else-names_nothing
 returns-else-names_nothing c =
-    appends_passed (TestFails c.args.env.now) reported (tested_at c.args.spot (path c.args.named.now)) _ c.if-names_nothing.ensures
+    rw c.in-Some.is (appends_passed (TestFails c.args.env.now) (reported c.args.env.now) (tested_at c.args.spot (path c.in-Some.named.now)) _ c.if-names_nothing.ensures)
