@@ -7,6 +7,8 @@ use crate::positions::CallbackReturn;
 use crate::returns::ReturnType;
 use crate::types::OutType;
 use bridge_decl::{IdentBuf, Items};
+use hir_attrs::Attrs;
+use hir_docs::Docs;
 use hir_ids::Ident;
 
 /// A function that a method is passed, or a method of a trait.
@@ -20,6 +22,10 @@ pub struct Callback {
     pub output: ReturnType<CallbackReturn>,
     /// The name of a method of a trait. None for a function.
     pub name: Option<Ident>,
+    /// The marks of a method of a trait. None for a function.
+    pub attrs: Option<Attrs>,
+    /// What is documented of a method of a trait. None for a function.
+    pub docs: Option<Docs>,
 }
 
 /// The receiver of a method of a trait.

@@ -16,6 +16,8 @@ use crate::returns::{ReturnType, SuccessType};
 use crate::slices::Slice;
 use crate::types::HirType;
 use bridge_decl::{Boxed, IdentBuf, NoMemory, clone_items, clone_option};
+use hir_attrs::Attrs;
+use hir_docs::Docs;
 use hir_ids::Ident;
 use std::alloc::Global;
 
@@ -232,6 +234,8 @@ impl Callback {
             params: clone_items(alloc, &self.params, CallbackParam::try_clone)?,
             output: self.output.try_clone(alloc)?,
             name: clone_option(alloc, &self.name, Ident::try_clone)?,
+            attrs: clone_option(alloc, &self.attrs, Attrs::try_clone)?,
+            docs: clone_option(alloc, &self.docs, Docs::try_clone)?,
         })
     }
 }

@@ -112,5 +112,7 @@ fn callback(alloc: Global) -> Callback {
         params,
         output: ReturnType::Nullable(SuccessType::Unit),
         name: None,
+        attrs: None,
+        docs: None,
     }
 }

@@ -1,0 +1,4 @@
+pub mod Receivers
+pub mod SpecialMethods
+pub mod TypeDefs
+pub mod Usage
