@@ -1,5 +1,5 @@
 -- A shape of which nothing is wrong where it comes in stands for something.
-use Rattle.std.proofs.Common.{◌≡◌, [], ◌∷◌, ◌++◌, true, Option, Some, None, is_some, refl}
+use Rattle.std.proofs.Common.{◌≡◌, [], ◌++◌, true, Option, is_some, refl}
 use Rattle.std.specs.Prelude.{⊤}
 use Rattle.bridge_decl.specs.declared.types.StdlibOrDiplomat.TheVariants.{Stdlib, Diplomat}
 use Rattle.bridge_grid.specs.Asked.{cell_faults, slice_borrows}

@@ -5,3 +5,4 @@ pub mod ReturnLemmas
 pub mod FunctionLemmas
 pub mod ParamLemmas
 pub mod ReceiverLemmas
+pub mod SignatureLemmas

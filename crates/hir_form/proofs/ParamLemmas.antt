@@ -16,7 +16,7 @@ use Rattle.hir_number.specs.declared.numbered.NumberedType.TheOpen.{NumberedType
 use Rattle.hir_types.specs.declared.paths.TraitPath.{TraitPath}
 use Rattle.hir_form.specs.Makers.{of_inputs, of_outputs}
 use Rattle.hir_form.specs.ParamForms.{callback_param_form, callback_params_form, callback_return_form, field_form, input_form, level_param_form, method_return_form, out_type_form, param_form, params_form}
-use Rattle.hir_form.specs.TypeForms.{generics_in, type_form}
+use Rattle.hir_form.specs.TypeForms.{generics_in}
 use Rattle.hir_form.proofs.EmptyLemmas.{all_more, both_there, inside_none, left_none, map_given, own_none, right_none}
 use Rattle.hir_form.proofs.FunctionLemmas.{IsOther, level_no}
 use Rattle.hir_form.proofs.InLemmas.{InField, InParam, InReturn, IsNoFunction, shape_in}

@@ -1,5 +1,5 @@
 -- A return of which nothing is wrong stands for something, where each accepted type does.
-use Rattle.std.proofs.Common.{◌≡◌, [], ◌∷◌, true, Option, is_some, refl, sym, subst}
+use Rattle.std.proofs.Common.{◌≡◌, [], true, Option, is_some, refl, sym, subst}
 use Rattle.bridge_decl.specs.declared.types.StdlibOrDiplomat.TheVariants.{Stdlib}
 use Rattle.bridge_decl.specs.declared.types.WriteType.{WriteType}
 use Rattle.bridge_grid.specs.Faults.{type_faults}

@@ -1,6 +1,6 @@
 -- What a shape stands for at a position: the lowered type, over what the position makes of its parts. A shape that stands for
 -- nothing is refused everywhere, or at the positions that don't have its parts.
-use Rattle.std.specs.Prelude.{◌≡◌, ⊤, ℕ, List, Bool, true, false, Option, Some, None, Result, Ok, Err, option_map}
+use Rattle.std.specs.Prelude.{ℕ, List, Bool, true, false, Option, Some, None, option_map}
 use Rattle.bridge_decl.specs.declared.types.PrimitiveType.{PrimitiveType}
 use Rattle.bridge_decl.specs.declared.types.PrimitiveType.TheVariants as declared
 use Rattle.bridge_rules.specs.declared.shape.Element.{Element}
@@ -30,15 +30,7 @@ use Rattle.hir_types.specs.declared.slices.Slice.{Slice}
 use Rattle.hir_types.specs.declared.slices.Slice.TheVariants as slice
 use Rattle.hir_types.specs.declared.types.HirType.{HirType, roll-HirType}
 use Rattle.hir_types.specs.declared.types.HirType.TheOpen.{HirType-F}
-use Rattle.hir_form.specs.declared.stop.Stop.{Stop}
-use Rattle.hir_form.specs.declared.stop.Stop.TheVariants as stop
 use Rattle.hir_form.specs.Makers.{Makers}
-
--- what came is what there is, and nothing came where there is nothing; after want of memory nothing is said
-abbrev pub Makes : {A : Type 0} → Result A Stop → Option A → Type 0
-Makes (Ok made) form = form ≡ Some made
-Makes (Err stop.Refused) form = form ≡ None
-Makes (Err stop.NoMemory) form = ⊤
 
 -- ---- primitive types, grouped as backends treat them
 

@@ -4,4 +4,6 @@ pub mod TypeForms
 pub mod ReturnForms
 pub mod ParamForms
 pub mod ReceiverForms
+pub mod SignatureForms
 pub mod Judging
+pub mod inside

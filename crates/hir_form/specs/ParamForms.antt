@@ -3,7 +3,6 @@ use Rattle.std.specs.Prelude.{ℕ, List, [], ◌∷◌, map, Option, Some, None,
 use Rattle.bridge_decl.specs.declared.types.WriteType.{WriteType}
 use Rattle.bridge_rules.specs.declared.catalog.Catalog.{Catalog}
 use Rattle.hir_ids.specs.declared.owners.Borrow.{Borrow}
-use Rattle.hir_ids.specs.declared.owners.MaybeOwn.{MaybeOwn}
 use Rattle.hir_number.specs.declared.numbered.NumberedType.{NumberedType, out-NumberedType}
 use Rattle.hir_number.specs.declared.numbered.NumberedType.TheOpen.{NumberedType-F}
 use Rattle.hir_types.specs.Named.{Returned, ReturnedType}

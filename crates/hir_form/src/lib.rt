@@ -31,7 +31,7 @@
 //!
 //! # What differs by the position
 //!
-//! One recursion makes all forms. It is generic in the position, and asks it four things (`Forms`): how a borrowed opaque is held, how one
+//! One walk makes all forms. It is generic in the position, and asks it four things (`Forms`): how a borrowed opaque is held, how one
 //! in a box is, and which structs and traits there are. A box of `Page` has a form where it goes out and none where it comes in, so at an
 //! input it isn't lowered but refused. A callback stands at the top of a parameter alone; what it takes goes out, and what it returns comes
 //! in at a position that has no callbacks.
@@ -41,6 +41,7 @@
 //! Lowering knows no rule. Each call first has `bridge_grid` tell what the type breaks. Where that is something, it is reported and nothing
 //! is made; where it is nothing, the type has a form, which is proved of each row of the table, and that form is the answer: [`judge_field`],
 //! [`judge_out_field`], [`judge_param`], [`judge_callback_param`], [`judge_return`], [`judge_callback_return`] and [`judge_receiver`].
+//! [`judge_signature`] does the same with all types of a method or a function at once.
 //!
 //! Upstream, the module `hir::lowering` of the crate `diplomat_core`, tests and lowers in one walk.
 #![tactic(auto)]
@@ -53,6 +54,7 @@ mod primitives;
 mod receivers;
 mod returns;
 mod shapes;
+mod signatures;
 mod stop;
 mod types;
 
@@ -60,3 +62,4 @@ pub use judging::{
     judge_callback_param, judge_callback_return, judge_field, judge_out_field, judge_param,
     judge_receiver, judge_return,
 };
+pub use signatures::{LoweredSignature, judge_signature};

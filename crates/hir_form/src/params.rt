@@ -1,7 +1,7 @@
 //! What parameters and their callbacks are lowered to.
 
 ghost use Rattle.std.specs.Prelude.{◌≡◌};
-ghost use Rattle.hir_form.specs.Forms.{Makes};
+ghost use Rattle.hir_form.specs.inside.Makes.{Makes};
 ghost use Rattle.hir_form.specs.ParamForms.{callback_form, callback_param_form, callback_params_form, callback_return_form, param_form, params_form};
 
 use crate::returns::lower_return;
@@ -71,7 +71,8 @@ fn lower_callback(
     })
 }
 
-/// What a parameter of a method or a function is lowered to. `Refused` where it may not stand there.
+/// What a parameter of a method or a function is lowered to. `Refused` where it may not stand
+/// there.
 pub fn lower_param(
     alloc: Global,
     catalog: &Catalog,

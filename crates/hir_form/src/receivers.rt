@@ -2,7 +2,7 @@
 
 ghost use Rattle.std.specs.Prelude.{◌≡◌};
 ghost use Rattle.bridge_rules.specs.Shapes.{slice_borrow};
-ghost use Rattle.hir_form.specs.Forms.{Makes};
+ghost use Rattle.hir_form.specs.inside.Makes.{Makes};
 ghost use Rattle.hir_form.specs.ReceiverForms.{entry_receiver, opaque_receiver, receiver_form};
 
 use crate::shapes::{enum_path, struct_path};
@@ -67,8 +67,8 @@ fn entry_receiver(
     }
 }
 
-/// What a receiver is lowered to: `self` of a type, or a reference to it. `Refused` where it may not
-/// be one.
+/// What a receiver is lowered to: `self` of a type, or a reference to it. `Refused` where it may
+/// not be one.
 pub fn lower_receiver(
     alloc: Global,
     catalog: &Catalog,

@@ -1,7 +1,7 @@
 //! What returns are lowered to.
 
 ghost use Rattle.std.specs.Prelude.{◌≡◌, option_map};
-ghost use Rattle.hir_form.specs.Forms.{Makes};
+ghost use Rattle.hir_form.specs.inside.Makes.{Makes};
 ghost use Rattle.hir_form.specs.ReturnForms.{error_form, out_form, return_form, returned_option_form, success_form, unit_form, writer_form};
 ghost use Rattle.hir_types.specs.declared.returns.ReturnType.TheVariants as returned;
 
@@ -27,7 +27,7 @@ fn writer_form(writer: Declared) -> WriteType
 }
 
 /// What comes of success where nothing is returned.
-fn unit_form<P: Forms>(written: Option<Declared>) -> SuccessType<P>
+pub fn unit_form<P: Forms>(written: Option<Declared>) -> SuccessType<P>
     ensures { result ≡ unit_form written }
 {
     match written {

@@ -1,7 +1,8 @@
 //! What shapes are lowered to.
 
 ghost use Rattle.std.specs.Prelude.{◌≡◌, Some};
-ghost use Rattle.hir_form.specs.Forms.{Makes, boxed_form, elements_form, enum_path, flat_form, opaque_path, opaque_type, option_type, shape_form, struct_form, struct_path, structs_form, value_form, values_form};
+ghost use Rattle.hir_form.specs.inside.Makes.{Makes};
+ghost use Rattle.hir_form.specs.Forms.{boxed_form, elements_form, enum_path, flat_form, opaque_path, opaque_type, option_type, shape_form, struct_form, struct_path, structs_form, value_form, values_form};
 
 use crate::positions::Forms;
 use crate::primitives::primitive_form;

@@ -1,7 +1,7 @@
 //! What types are lowered to.
 
 ghost use Rattle.std.specs.Prelude.{◌≡◌, IfOk};
-ghost use Rattle.hir_form.specs.Forms.{Makes};
+ghost use Rattle.hir_form.specs.inside.Makes.{Makes};
 ghost use Rattle.hir_form.specs.TypeForms.{generics_in, type_form};
 
 use crate::positions::Forms;
