@@ -14,6 +14,7 @@ use hir_life::Lifetimes;
 use hir_types::{EnumPath, HirType, OpaquePath, Slice, StructPath, TraitPath};
 use std::alloc::Global;
 
+/// The path of a struct.
 pub fn struct_path(lifetimes: Lifetimes, id: usize, owner: MaybeOwn) -> StructPath
     ensures { result ≡ struct_path lifetimes id owner }
 {
@@ -24,6 +25,7 @@ pub fn struct_path(lifetimes: Lifetimes, id: usize, owner: MaybeOwn) -> StructPa
     }
 }
 
+/// The path of an opaque, which may be absent.
 fn opaque_path<Owner>(
     lifetimes: Lifetimes,
     is_optional: bool,
@@ -40,6 +42,7 @@ fn opaque_path<Owner>(
     }
 }
 
+/// The path of an enum.
 pub fn enum_path(id: usize) -> EnumPath
     ensures { result ≡ enum_path id }
 {
