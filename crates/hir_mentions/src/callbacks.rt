@@ -18,7 +18,8 @@ fn add_trait_self<'a>(
     receiver: &'a Option<TraitParamSelf>,
 ) -> Result<(), NoMemory>
     ensures { OnOk result (all_mentioned mentions.new
-        ≡ all_mentioned mentions.old ++ where_any (λ r. trait_path_mentions r.trait_path) receiver.now) }
+        ≡ all_mentioned mentions.old
+        ++ where_any (λ r. trait_path_mentions r.trait_path) receiver.now) }
 {
     match receiver {
         Some(receiver) => add_trait_path(mentions, &receiver.trait_path),
@@ -45,7 +46,8 @@ pub(crate) fn add_callback<'a>(
     mentions: &mut Vec<Mention<'a>>,
     callback: &'a Callback,
 ) -> Result<(), NoMemory>
-    ensures { OnOk result (all_mentioned mentions.new ≡ all_mentioned mentions.old ++ callback_mentions callback.now) }
+    ensures { OnOk result (all_mentioned mentions.new
+        ≡ all_mentioned mentions.old ++ callback_mentions callback.now) }
 {
     add_trait_self(mentions, &callback.param_self)?;
     add_callback_params(mentions, callback.params.as_slice())?;

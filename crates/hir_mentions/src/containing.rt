@@ -11,7 +11,8 @@ use std::alloc::Global;
 
 /// Adds the struct that the type is, or that is inside its options.
 fn add_contained<P: TyPosition>(ids: &mut Vec<TypeId>, ty: &HirType<P>) -> Result<(), NoMemory>
-    ensures { OnOk result (ids.new.items ≡ ids.old.items ++ contained_in_type P.StructPath.id_of ty.now) }
+    ensures { OnOk result (ids.new.items
+        ≡ ids.old.items ++ contained_in_type P.StructPath.id_of ty.now) }
 {
     match ty {
         HirType::Struct(path) => {

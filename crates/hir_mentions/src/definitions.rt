@@ -88,7 +88,8 @@ pub fn trait_mentions(alloc: Global, def: &TraitDef) -> Result<Vec<Mention<'_>>,
 
 /// Adds what the types of a result name.
 fn add_result<'a>(mentions: &mut Vec<Mention<'a>>, usage: &'a ResultUsage) -> Result<(), NoMemory>
-    ensures { OnOk result (all_mentioned mentions.new ≡ all_mentioned mentions.old ++ result_mentions usage.now) }
+    ensures { OnOk result (all_mentioned mentions.new
+        ≡ all_mentioned mentions.old ++ result_mentions usage.now) }
 {
     match usage {
         ResultUsage::Input(info) => {

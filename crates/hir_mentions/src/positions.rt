@@ -35,7 +35,8 @@ pub trait PositionMentions: TyPosition {
         mentions: &mut Vec<Mention<'a>>,
         path: &'a Self::StructPath,
     ) -> Result<(), NoMemory>
-        ensures { OnOk result (all_mentioned mentions.new ≡ all_mentioned mentions.old ++ of_struct path.now) };
+        ensures { OnOk result (all_mentioned mentions.new
+            ≡ all_mentioned mentions.old ++ of_struct path.now) };
 
     /// Adds the lifetime by which an opaque is borrowed, where it is.
     fn add_owner<'a>(
@@ -52,7 +53,8 @@ pub trait PositionMentions: TyPosition {
         path: Option<&'a Self::TraitPath>,
     ) -> Result<(), NoMemory>
         ensures { OnOk result
-            (all_mentioned mentions.new ≡ all_mentioned mentions.old ++ where_any of_trait (option_copied path.entry)) };
+            (all_mentioned mentions.new ≡ all_mentioned mentions.old
+            ++ where_any of_trait (option_copied path.entry)) };
 
     /// Adds what a callback names, where there is one.
     fn add_callback<'a>(
@@ -60,7 +62,8 @@ pub trait PositionMentions: TyPosition {
         callback: Option<&'a Self::CallbackInstantiation>,
     ) -> Result<(), NoMemory>
         ensures { OnOk result
-            (all_mentioned mentions.new ≡ all_mentioned mentions.old ++ where_any of_callback (option_copied callback.entry)) };
+            (all_mentioned mentions.new ≡ all_mentioned mentions.old
+            ++ where_any of_callback (option_copied callback.entry)) };
 }
 
 impl PositionMentions for Everywhere {

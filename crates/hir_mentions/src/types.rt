@@ -49,7 +49,8 @@ pub(crate) fn add_owner<'a>(
     mentions: &mut Vec<Mention<'a>>,
     owner: &'a MaybeOwn,
 ) -> Result<(), NoMemory>
-    ensures { OnOk result (all_mentioned mentions.new ≡ all_mentioned mentions.old ++ owner_mentions owner.now) }
+    ensures { OnOk result (all_mentioned mentions.new
+        ≡ all_mentioned mentions.old ++ owner_mentions owner.now) }
 {
     match owner {
         MaybeOwn::Own => Ok(()),
@@ -63,7 +64,8 @@ fn add_opaque<'a>(
     id: &'a OpaqueId,
     lifetimes: &'a Lifetimes,
 ) -> Result<(), NoMemory>
-    ensures { OnOk result (all_mentioned mentions.new ≡ all_mentioned mentions.old ++ opaque_mention id.now lifetimes.now ∷ []) }
+    ensures { OnOk result (all_mentioned mentions.new
+        ≡ all_mentioned mentions.old ++ opaque_mention id.now lifetimes.now ∷ []) }
 {
     mentions.push(Mention::Opaque(id, lifetimes))?;
     Ok(())
@@ -71,7 +73,8 @@ fn add_opaque<'a>(
 
 /// Adds an enum.
 fn add_enum<'a>(mentions: &mut Vec<Mention<'a>>, id: &'a EnumId) -> Result<(), NoMemory>
-    ensures { OnOk result (all_mentioned mentions.new ≡ all_mentioned mentions.old ++ enum_mention id.now ∷ []) }
+    ensures { OnOk result (all_mentioned mentions.new
+        ≡ all_mentioned mentions.old ++ enum_mention id.now ∷ []) }
 {
     mentions.push(Mention::Enum(id))?;
     Ok(())
@@ -82,7 +85,8 @@ pub(crate) fn add_struct_path<'a>(
     mentions: &mut Vec<Mention<'a>>,
     path: &'a StructPath,
 ) -> Result<(), NoMemory>
-    ensures { OnOk result (all_mentioned mentions.new ≡ all_mentioned mentions.old ++ struct_path_mentions path.now) }
+    ensures { OnOk result (all_mentioned mentions.new
+        ≡ all_mentioned mentions.old ++ struct_path_mentions path.now) }
 {
     mentions.push(Mention::Struct(&path.tcx_id, &path.lifetimes))?;
     add_owner(mentions, &path.owner)
@@ -93,7 +97,8 @@ pub(crate) fn add_out_path<'a>(
     mentions: &mut Vec<Mention<'a>>,
     path: &'a OutStructPath,
 ) -> Result<(), NoMemory>
-    ensures { OnOk result (all_mentioned mentions.new ≡ all_mentioned mentions.old ++ out_path_mentions path.now) }
+    ensures { OnOk result (all_mentioned mentions.new
+        ≡ all_mentioned mentions.old ++ out_path_mentions path.now) }
 {
     mentions.push(Mention::OutStruct(&path.tcx_id, &path.lifetimes))?;
     add_owner(mentions, &path.owner)
@@ -104,7 +109,8 @@ pub(crate) fn add_trait_path<'a>(
     mentions: &mut Vec<Mention<'a>>,
     path: &'a TraitPath,
 ) -> Result<(), NoMemory>
-    ensures { OnOk result (all_mentioned mentions.new ≡ all_mentioned mentions.old ++ trait_path_mentions path.now) }
+    ensures { OnOk result (all_mentioned mentions.new
+        ≡ all_mentioned mentions.old ++ trait_path_mentions path.now) }
 {
     mentions.push(Mention::Trait(&path.tcx_id, &path.lifetimes))?;
     Ok(())
@@ -115,7 +121,8 @@ pub(crate) fn add_receiver<'a>(
     mentions: &mut Vec<Mention<'a>>,
     receiver: &'a SelfType,
 ) -> Result<(), NoMemory>
-    ensures { OnOk result (all_mentioned mentions.new ≡ all_mentioned mentions.old ++ receiver_mentions receiver.now) }
+    ensures { OnOk result (all_mentioned mentions.new
+        ≡ all_mentioned mentions.old ++ receiver_mentions receiver.now) }
 {
     match receiver {
         SelfType::Opaque(path) => {
@@ -132,7 +139,8 @@ fn add_slice<'a, P: PositionMentions>(
     mentions: &mut Vec<Mention<'a>>,
     slice: &'a Slice<P>,
 ) -> Result<(), NoMemory>
-    ensures { OnOk result (all_mentioned mentions.new ≡ all_mentioned mentions.old ++ slice_mentions P.of_struct slice.now) }
+    ensures { OnOk result (all_mentioned mentions.new
+        ≡ all_mentioned mentions.old ++ slice_mentions P.of_struct slice.now) }
 {
     match slice {
         Slice::Str(lifetime, _) => add_lifetime(mentions, lifetime),
@@ -212,7 +220,8 @@ pub(crate) fn add_return<'a, P: PositionMentions>(
     mentions: &mut Vec<Mention<'a>>,
     output: &'a ReturnType<P>,
 ) -> Result<(), NoMemory>
-    ensures { OnOk result (all_mentioned mentions.new ≡ all_mentioned mentions.old ++ return_mentions
+    ensures { OnOk result (all_mentioned mentions.new
+        ≡ all_mentioned mentions.old ++ return_mentions
         (type_mentions P.OpaqueOwnership.borrow_of P.of_struct P.of_trait P.of_callback)
         output.now) }
 {
