@@ -1,5 +1,5 @@
 -- What types name at each position, and what callbacks and methods name.
-use Rattle.std.specs.Prelude.{ℕ, List, [], ◌∷◌, ◌++◌, Some}
+use Rattle.std.specs.Prelude.{ℕ, List, [], ◌++◌, Some}
 use Rattle.std.specs.List.{flat_map}
 use Rattle.hir_ids.specs.Owners.{lent}
 use Rattle.hir_ids.specs.declared.owners.Borrow.{Borrow as Loan}

@@ -18,7 +18,7 @@ use Rattle.hir_types.specs.declared.slices.Slice.{Slice}
 use Rattle.hir_types.specs.declared.slices.Slice.TheVariants as slice
 use Rattle.hir_types.specs.declared.types.HirType.{HirType, fold-HirType}
 use Rattle.hir_types.specs.declared.types.HirType.TheOpen.{HirType-F}
-use Rattle.hir_mentions.specs.Mentions.{Mentioned, Path, Plain, Borrow, where_any, borrow_mentions, owner_mentions, opaque_mention, enum_mention}
+use Rattle.hir_mentions.specs.Mentions.{Mentioned, Path, Borrow, where_any, borrow_mentions, owner_mentions, opaque_mention, enum_mention}
 
 -- a path to a struct
 abbrev pub struct_path_mentions : StructPath → List Mentioned
