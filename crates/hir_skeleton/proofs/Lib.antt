@@ -1,0 +1,10 @@
+pub mod Members
+pub mod Passing
+pub mod Once
+pub mod Fields
+pub mod Nesting
+pub mod Unfolding
+pub mod Edging
+pub mod Own
+pub mod Outliving
+pub mod Positions

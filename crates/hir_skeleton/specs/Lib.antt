@@ -1,0 +1,4 @@
+pub mod Skeletons
+pub mod Leaves
+pub mod Edges
+pub mod Lowered
