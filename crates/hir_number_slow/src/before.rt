@@ -74,7 +74,8 @@ pub fn number_after(
     lifetime: &Written<'_>,
 ) -> Number
     ensures { result ≡ lifetime_number (lifetime_names declared.now)
-        (count_of (signature_seen declared.now occurrences.now false)) (written_seen lifetime.now) }
+        (count_of (signature_seen declared.now occurrences.now false))
+        (written_seen lifetime.now) }
 {
     match *lifetime {
         Written::Static => Ok(MaybeStatic::Static),

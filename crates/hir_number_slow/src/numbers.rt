@@ -102,7 +102,8 @@ fn lower_each<'m>(
     lifetimes: &[Written<'m>],
 ) -> Result<Vec<Number>, AllocError>
     ensures { IfOk result (λ numbers. numbers.items
-        ≡ lowered_each (mode_seen mode) (before_seen before.old) (map written_seen lifetimes.now)) }
+        ≡ lowered_each (mode_seen mode) (before_seen before.old)
+        (map written_seen lifetimes.now)) }
 {
     let mut numbers = Vec::new(alloc);
     for lifetime in lifetimes {

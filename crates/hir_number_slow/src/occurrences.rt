@@ -132,7 +132,8 @@ pub fn has_own(uses: &[PlacedUse<'_>]) -> bool
 /// The role in which the lifetimes of a use occur, if they do.
 fn role_of(met: bool, placed: &PlacedUse<'_>) -> Option<Role>
     ensures { appearing_as (option_map role_seen result)
-        (lifetimes_used (use_seen placed.now.used)) ≡ use_occurrences met (placed_seen placed.now) }
+        (lifetimes_used (use_seen placed.now.used))
+        ≡ use_occurrences met (placed_seen placed.now) }
 {
     match (placed.part, is_own_use(&placed.used)) {
         (Part::Field, _) => None,

@@ -27,7 +27,8 @@ pub fn substitution_composes_along_nesting<K>()
 /// itself, under the test through the arguments.
 pub fn lists_test_through_arguments<K>()
     ensures { (fields_of : K → List (Skeleton K)) (levels : ℕ) (args : List (MaybeStatic ℕ))
-        (s : Skeleton K) (test : ℕ → Bool) → listed_paths test (deep_leaves fields_of levels args s)
+        (s : Skeleton K) (test : ℕ → Bool)
+        → listed_paths test (deep_leaves fields_of levels args s)
         ≡ listed_paths (through test args)
         (deep_leaves fields_of levels (identity (length args)) s) }
 {}
