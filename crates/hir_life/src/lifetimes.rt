@@ -50,6 +50,13 @@ impl Lifetimes {
         })
     }
 
+    /// These lifetimes, moved. Who makes room in such a list first can add to it where no memory may be taken.
+    pub fn from_list(indices: SmallVec<MaybeStatic<Lifetime>, 2>) -> Lifetimes
+        ensures { result ≡ indices.items }
+    {
+        Lifetimes { indices }
+    }
+
     /// An equal list.
     pub fn try_clone(&self, alloc: Global) -> Result<Lifetimes, NoMemory>
         ensures { IfOk result (λ list. list ≡ self.now) }
