@@ -33,7 +33,7 @@ err_more (Ok n ∷ xs) ys e h = ap (with_first n) (err_more xs ys e (of_rest n (
 err_more (Err d ∷ xs) ys e h = h
 
 -- a fault tells itself
-tells : {A : Type 0} (e : ElideFault) (r : Result A ElideFault) → r ≡ Err e → TellsFault e r
+pub tells : {A : Type 0} (e : ElideFault) (r : Result A ElideFault) → r ≡ Err e → TellsFault e r
 tells fault.NoMemory r h = tt
 tells fault.LifetimeUnknown r h = h
 tells fault.AnonymousInDefinition r h = h
@@ -41,15 +41,6 @@ tells fault.ElisionNoSource r h = h
 tells fault.ElisionAmbiguous r h = h
 tells fault.TooManyLifetimes r h = h
 tells fault.BadIdent r h = h
-
-tells_more : (e : ElideFault) (xs ys : List Number) → TellsFault e (all_or_fault xs) → TellsFault e (all_or_fault (xs ++ ys))
-tells_more fault.NoMemory xs ys h = tt
-tells_more fault.LifetimeUnknown xs ys h = err_more xs ys fault.LifetimeUnknown h
-tells_more fault.AnonymousInDefinition xs ys h = err_more xs ys fault.AnonymousInDefinition h
-tells_more fault.ElisionNoSource xs ys h = err_more xs ys fault.ElisionNoSource h
-tells_more fault.ElisionAmbiguous xs ys h = err_more xs ys fault.ElisionAmbiguous h
-tells_more fault.TooManyLifetimes xs ys h = err_more xs ys fault.TooManyLifetimes h
-tells_more fault.BadIdent xs ys h = err_more xs ys fault.BadIdent h
 
 -- ---- two lists, one after the other
 
@@ -79,10 +70,11 @@ only_is Returning s l = refl
 only_is Defining s l = refl
 
 -- a fault of the first of two lists is one of both
-pub fault_more : (phase : Phase) (s : Signature) (ls ks : List Lifetime) (e : ElideFault) → TellsFault e (all_or_fault (lowered_each phase s ls))
+pub fault_more : (phase : Phase) (s : Signature) (ls ks : List Lifetime) (e : ElideFault) → all_or_fault (lowered_each phase s ls) ≡ Err e
     → TellsFault e (all_or_fault (lowered_each phase s (ls ++ ks)))
 fault_more phase s ls ks e h =
-    subst (λ xs. TellsFault e (all_or_fault xs)) (sym (each_more phase s ls ks)) (tells_more e (lowered_each phase s ls) (lowered_each phase (with_uses phase s ls) ks) h)
+    tells e (all_or_fault (lowered_each phase s (ls ++ ks)))
+    (ap all_or_fault (each_more phase s ls ks) ∙ err_more (lowered_each phase s ls) (lowered_each phase (with_uses phase s ls) ks) e h)
 
 -- ---- a list that a loop goes through: up to its lifetime l, and from there on
 
@@ -123,10 +115,9 @@ module _ (phase : Phase) (s : Signature) (ls : List Lifetime) (ns : List (MaybeS
 
   -- or stops there
   pub stops : (rest : List Lifetime) (e : ElideFault) → Err e ≡ lowered phase (with_uses phase s ls) l → (all : List Lifetime) → ls ++ l ∷ rest ≡ all
-      → TellsFault e (all_or_fault (lowered_each phase s all))
+      → all_or_fault (lowered_each phase s all) ≡ Err e
   stops rest e told all is =
       let first : (more : List Number) × (lowered_each phase (with_uses phase s ls) (l ∷ rest) ≡ lowered phase (with_uses phase s ls) l ∷ more) = first_is phase (with_uses phase s ls) l rest in
-      tells e (all_or_fault (lowered_each phase s all))
-      (ap (λ ks. all_or_fault (lowered_each phase s ks)) (sym is) ∙ ap all_or_fault (each_more phase s ls (l ∷ rest))
+      ap (λ ks. all_or_fault (lowered_each phase s ks)) (sym is) ∙ ap all_or_fault (each_more phase s ls (l ∷ rest))
       ∙ ap (λ xs. all_or_fault (xs ++ lowered_each phase (with_uses phase s ls) (l ∷ rest))) so_far
-      ∙ ap (λ xs. all_or_fault (map Ok ns ++ xs)) first.1 ∙ ap (λ x. all_or_fault (map Ok ns ++ x ∷ first.0)) (sym told) ∙ first_err ns e first.0)
+      ∙ ap (λ xs. all_or_fault (map Ok ns ++ xs)) first.1 ∙ ap (λ x. all_or_fault (map Ok ns ++ x ∷ first.0)) (sym told) ∙ first_err ns e first.0

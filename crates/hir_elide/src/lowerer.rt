@@ -1,6 +1,6 @@
 //! What lowers lifetimes, in whatever place they are used.
 
-ghost use Rattle.std.specs.Prelude.{◌≡◌, ◌∷◌, [], ◌≤◌, IfOk, OnOk, length, true};
+ghost use Rattle.std.specs.Prelude.{◌≡◌, ◌∷◌, [], ◌≤◌, IfOk, OnOk, IsErrOf, length, true};
 ghost use Rattle.hir_elide.specs.Generics.{IsUnlessNoMemory, OwnHasArity, all_or_fault, filled, lowered_generics, with_generics};
 ghost use Rattle.hir_elide.specs.Occurrences.{Signature};
 ghost use Rattle.hir_elide.specs.Phases.{Phase, lowered, lowered_each, with_uses};
@@ -19,17 +19,18 @@ pub trait StandsFor {
 
 /// Lowers lifetimes in the order in which they are used: each to its number, or to `'static`.
 ///
-/// After a fault a lowerer is let go: what it would answer then isn't said.
+/// Where there is no memory a lowerer stays as it was. After any other fault it is let go: what it would answer then isn't said.
 pub trait LowerLifetime: StandsFor {
     /// Where the lifetimes are used.
     ghost phase: { Phase };
 
-    /// The lifetime that is used next.
+    /// The lifetime that is used next. No memory is taken.
     fn lower_lifetime(&mut self, lifetime: &Written) -> Result<MaybeStatic<Lifetime>, ElideFault>
         ensures told { (s : Signature) → Self.stands self.old s
             → result ≡ lowered phase s lifetime.now }
         ensures kept { (s : Signature) → Self.stands self.old s
-            → OnOk result (Self.stands self.new (with_uses phase s (lifetime.now ∷ []))) };
+            → OnOk result (Self.stands self.new (with_uses phase s (lifetime.now ∷ []))) }
+        ensures memory { ¬ (IsErrOf result ElideFault.NoMemory) };
 }
 
 /// Lowers the generics of paths too.
@@ -50,6 +51,7 @@ pub trait LifetimeLowerer: LowerLifetime {
         ensures kept { (s : Signature) → Self.stands self.old s
             → OnOk result (Self.stands self.new (with_uses Self.phase s (filled lifetimes.now
             (length type_generics.now.nodes)))) }
+        ensures memory { IsErrOf result ElideFault.NoMemory → self.new ≡ self.old }
         ensures arity { IfOk result (λ numbers. length numbers ≡ length type_generics.now.nodes) }
     {
         lower_each(alloc, self, lifetimes, type_generics.nodes.len())
@@ -71,6 +73,7 @@ pub trait LifetimeLowerer: LowerLifetime {
         ensures kept { (s : Signature) → Self.stands self.old s
             → OnOk result (Self.stands self.new (with_generics Self.phase is_self s
             (filled lifetimes.now (length type_generics.now.nodes)))) }
+        ensures memory { IsErrOf result ElideFault.NoMemory → self.new ≡ self.old }
         ensures arity { (s : Signature) → Self.stands self.old s
             → (is_self ≡ true → OwnHasArity s (length type_generics.now.nodes))
             → IfOk result (λ numbers. length numbers ≡ length type_generics.now.nodes) };

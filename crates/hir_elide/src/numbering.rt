@@ -1,6 +1,6 @@
 //! Numbers of lifetimes, as far as a signature was gone through.
 
-ghost use Rattle.std.specs.Prelude.{◌≡◌, ◌≤◌, ◌∷◌, [], Ok, IfOk, OnOk, length, map};
+ghost use Rattle.std.specs.Prelude.{◌≡◌, ◌≤◌, ◌∷◌, [], Ok, IfOk, OnOk, IsErrOf, length, map};
 ghost use Rattle.bridge_decl.specs.Lifetimes.{lifetime_names};
 ghost use Rattle.bridge_text.specs.NameIndex.{number_of};
 ghost use Rattle.bridge_decl.specs.declared.lifetimes.Lifetime.TheVariants as written;
@@ -10,7 +10,7 @@ ghost use Rattle.hir_elide.specs.Occurrences.{Role, Own, Signature, count_of};
 ghost use Rattle.hir_elide.specs.Phases.{Using, lowered_each, with_uses};
 
 use crate::fault::ElideFault;
-use crate::generics::lower_each;
+use crate::generics::{copied, lower_each, room_for};
 use crate::lowerer::{LowerLifetime, StandsFor};
 use bridge_decl::{Lifetime as Written, LifetimeEnv, NameIndex, Text};
 use hir_life::{self, Lifetime, Lifetimes, MaybeStatic};
@@ -21,7 +21,8 @@ pub const MOST_LIFETIMES: usize = 4095;
 
 /// The number, where a lifetime may have it.
 pub fn within_most(number: usize) -> Result<MaybeStatic<Lifetime>, ElideFault>
-    ensures { result ≡ within_most number }
+    ensures told { result ≡ within_most number }
+    ensures memory { ¬ (IsErrOf result ElideFault.NoMemory) }
 {
     if number < MOST_LIFETIMES {
         Ok(MaybeStatic::NonStatic(Lifetime::new(number)))
@@ -46,8 +47,9 @@ impl Numbering {
 
     /// The number of a declared name.
     pub fn named(&self, name: &Text) -> Result<MaybeStatic<Lifetime>, ElideFault>
-        ensures { (s : Signature) → Numbers self.now s
+        ensures told { (s : Signature) → Numbers self.now s
             → result ≡ name_number (number_of (lifetime_names s.declared) name.now) }
+        ensures memory { ¬ (IsErrOf result ElideFault.NoMemory) }
     {
         match self.names.get(name) {
             Some(place) => within_most(*place),
@@ -60,6 +62,7 @@ impl Numbering {
         ensures told { (s : Signature) → Numbers self.old s → result ≡ within_most (count_of s) }
         ensures kept { (s : Signature) (role : Role) → Numbers self.old s
             → OnOk result (Numbers self.new (with_uses (Using role) s (written.Anonymous ∷ []))) }
+        ensures memory { ¬ (IsErrOf result ElideFault.NoMemory) }
         ensures own { self.new.own ≡ self.old.own }
     {
         if self.lifetimes.num_lifetimes() >= MOST_LIFETIMES {
@@ -74,6 +77,7 @@ impl Numbering {
             → result ≡ lifetime_number (lifetime_names s.declared) (count_of s) lifetime.now }
         ensures kept { (s : Signature) (role : Role) → Numbers self.old s
             → OnOk result (Numbers self.new (with_uses (Using role) s (lifetime.now ∷ []))) }
+        ensures memory { ¬ (IsErrOf result ElideFault.NoMemory) }
         ensures own { self.new.own ≡ self.old.own }
     {
         match lifetime {
@@ -122,6 +126,7 @@ impl Numbering {
             → OnOk result
             (IsOwn self.new.own (with_own s.has_self s (filled lifetimes.now
             (length type_generics.now.nodes)))) }
+        ensures memory { IsErrOf result ElideFault.NoMemory → self.new ≡ self.old }
         ensures arity { (s : Signature) → Numbers self.old s → IsOwn self.old.own s
             → OwnHasArity s (length type_generics.now.nodes)
             → IfOk result (λ numbers. length numbers ≡ length type_generics.now.nodes) }
@@ -152,10 +157,13 @@ impl Numbering {
             → IfOk result (λ numbers. (self.new.own ≡ Some numbers)
             × (lowered_each (Using Own) s (filled lifetimes.now (length type_generics.now.nodes))
             ≡ map Ok numbers)) }
+        ensures memory { IsErrOf result ElideFault.NoMemory → self.new ≡ self.old }
         ensures arity { IfOk result (λ numbers. length numbers ≡ length type_generics.now.nodes) }
     {
-        let own = lower_each(alloc, self, lifetimes, type_generics.nodes.len())?;
-        let copy = own.try_clone(alloc)?;
+        let count = type_generics.nodes.len();
+        let room = room_for(alloc, count)?;
+        let own = lower_each(alloc, self, lifetimes, count)?;
+        let copy = copied(&own, room);
         self.own = Some(own);
         Ok(copy)
     }

@@ -1,6 +1,6 @@
 //! What a lifetime stands for that a return leaves out.
 
-ghost use Rattle.std.specs.Prelude.{◌≡◌};
+ghost use Rattle.std.specs.Prelude.{◌≡◌, IsErrOf};
 
 use crate::fault::ElideFault;
 use hir_life::{Lifetime, MaybeStatic};
@@ -42,7 +42,8 @@ impl ElisionSource {
 
     /// The lifetime that one stands for which is left out.
     pub fn elided(&self) -> Result<MaybeStatic<Lifetime>, ElideFault>
-        ensures { result ≡ elided_from self.now }
+        ensures told { result ≡ elided_from self.now }
+        ensures memory { ¬ (IsErrOf result ElideFault.NoMemory) }
     {
         match self {
             ElisionSource::SelfParam(lifetime) | ElisionSource::OneParam(lifetime) => Ok(*lifetime),

@@ -7,8 +7,9 @@ use Rattle.hir_elide.proofs.generics.lower_unwritten.Given as goal
 
 abbrev pub invariant-loop : goal.invariant-loop
 invariant-loop g l =
-    (length l.lowered ≡ length l.initial.lowered + l.counter)
+    (length l.lowered.items ≡ length l.initial.lowered.items + l.counter)
+    × (l.lowered.capacity ≡ l.initial.lowered.capacity)
     × ((s : Signature) (ls : List Lifetime) → g.L.StandsFor.stands l.initial.lowerer (with_uses g.L.LowerLifetime.phase s ls)
-    → lowered_each g.L.LowerLifetime.phase s ls ≡ map Ok l.initial.lowered
-    → (lowered_each g.L.LowerLifetime.phase s (ls ++ replicate l.counter written.Anonymous) ≡ map Ok l.lowered)
+    → lowered_each g.L.LowerLifetime.phase s ls ≡ map Ok l.initial.lowered.items
+    → (lowered_each g.L.LowerLifetime.phase s (ls ++ replicate l.counter written.Anonymous) ≡ map Ok l.lowered.items)
     × g.L.StandsFor.stands l.lowerer (with_uses g.L.LowerLifetime.phase s (ls ++ replicate l.counter written.Anonymous)))

@@ -5,4 +5,4 @@ use Rattle.hir_elide.proofs.returns.ReturnLifetimeLowererLowerLifetime.lower_lif
 
 pub returns-in-Anonymous-clause-told : goal.returns-in-Anonymous-clause-told
 returns-in-Anonymous-clause-told c = λ s at.
-    rw c.in-Anonymous.is (c.elided.ensures ∙ elided_source c.args.self.now.source (used_as is_borrow s) (used_as is_counting s) at.source)
+    rw c.in-Anonymous.is (c.elided.ensures.told ∙ elided_source c.args.self.now.source (used_as is_borrow s) (used_as is_counting s) at.source)
