@@ -3,7 +3,6 @@ pub mod BorrowingLemmas
 pub mod ChosenLemmas
 pub mod ListingLemmas
 pub mod NumberLemmas
-pub mod OrderLemmas
 pub mod PageLemmas
 pub mod PathLemmas
 pub mod RefusalLemmas

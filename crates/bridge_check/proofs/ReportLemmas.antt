@@ -18,7 +18,7 @@ use Rattle.bridge_decl.specs.Lifetimes.{lifetime_names}
 use Rattle.bridge_decl.specs.Names.{item_name}
 use Rattle.bridge_check.specs.Checks.{Check, name_checks, path_checks, lifetime_checks, Tested, method_names, method_paths, method_lifetimes, receiver_paths, returned_paths, receiver_lifetimes, returned_lifetimes, type_paths, type_lifetimes, tested_in_method, tested_in_item, tested_in_module, tested_at_number, tested_in, method_checks}
 use Rattle.hir_reports.specs.Store.{at_place}
-use Rattle.bridge_check.specs.Order.{module_order}
+use Rattle.bridge_order.specs.Order.{module_order}
 use Rattle.bridge_check.specs.inside.Reporting.{Appends}
 use Rattle.bridge_check.specs.Methods.{methods_of}
 use Rattle.bridge_check.proofs.ChosenLemmas.{appends_then}

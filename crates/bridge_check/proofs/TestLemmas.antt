@@ -18,9 +18,9 @@ use Rattle.bridge_check.specs.Checks.{Check, name, name_checks, Fails, failure_o
 use Rattle.bridge_check.specs.Chosen.{Chosen}
 use Rattle.bridge_check.specs.inside.Signatures.{HasNamedItems}
 use Rattle.bridge_check.specs.Methods.{methods_of}
-use Rattle.bridge_check.specs.Order.{module_order}
+use Rattle.bridge_order.specs.Order.{module_order}
 use Rattle.hir_life.proofs.Declaring.{no_bad}
-use Rattle.bridge_check.proofs.OrderLemmas.{all_ordered, get_there}
+use Rattle.bridge_order.proofs.OrderLemmas.{all_ordered, get_there}
 
 pub contains_first : {A : Type 0} (x : A) (xs : List A) → Contains (x ∷ xs) x
 contains_first x xs = (0, omega arith, refl)

@@ -26,7 +26,7 @@ use Rattle.bridge_check.specs.declared.borrowing.ReturnedLifetime.{ReturnedLifet
 use Rattle.bridge_check.specs.declared.borrowing.CallableReport.{CallableReport}
 use Rattle.bridge_check.specs.Checks.{lifetime_name, receiver_lifetimes, returned_lifetimes, type_lifetimes}
 use Rattle.bridge_check.specs.Methods.{methods_of}
-use Rattle.bridge_check.specs.Order.{of_found, module_order}
+use Rattle.bridge_order.specs.Order.{of_found, module_order}
 use Rattle.bridge_check.specs.Chosen.{Chosen, EachPair}
 use Rattle.bridge_text.specs.NameIndex.{number_of}
 

@@ -22,7 +22,7 @@ use Rattle.bridge_check.specs.rules.BadIdent.{bad_ident}
 use Rattle.bridge_check.specs.rules.UnresolvedPath.{unresolved_path}
 use Rattle.bridge_check.specs.rules.LifetimeUnknown.{lifetime_unknown}
 use Rattle.bridge_check.specs.Methods.{methods_of}
-use Rattle.bridge_check.specs.Order.{of_found, module_order}
+use Rattle.bridge_order.specs.Order.{of_found, module_order}
 
 -- something that a rule tests
 pub data Check : Type 0 where

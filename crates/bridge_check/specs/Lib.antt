@@ -3,7 +3,6 @@ pub mod Breaks
 pub mod Checks
 pub mod Chosen
 pub mod Methods
-pub mod Order
 pub mod Page
 pub mod Refused
 pub mod Test

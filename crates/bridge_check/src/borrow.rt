@@ -13,7 +13,7 @@ ghost use Rattle.bridge_ast.specs.Sound.{AreSound};
 ghost use Rattle.bridge_check.specs.Borrows.{numbers, leaves_at, param_leaves, leaves as leaves_in, returned_numbers, IsReturned, Callable, callables_of, callables_in, IsCallableBorrowing, AreBorrowings, callables_at};
 ghost use Rattle.bridge_check.specs.Breaks.{BreakNothing};
 ghost use Rattle.bridge_check.specs.Chosen.{EachPair};
-ghost use Rattle.bridge_check.specs.Order.{module_order};
+ghost use Rattle.bridge_order.specs.Order.{module_order};
 ghost use Rattle.bridge_text.specs.NameIndex.{Indexes};
 ghost use Rattle.bridge_check.specs.inside.Listing.{leaf_of, IsInRange, AreInRange, Lists};
 ghost use Rattle.hir_life.specs.Declarations.{declared_environment};

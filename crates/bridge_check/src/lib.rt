@@ -10,9 +10,8 @@
 //! of the receiver, which is borrowed for `'a`, and of `y`, which is borrowed for `'b`, since by the bound `'b: 'a` the lifetime `'b`
 //! outlives `'a`.
 //!
-//! - `module_order` is the order in which modules are gone through.
-//! - `reports_of` tests every name, path and lifetime, module by module. Were `y` a `&'b Q`, the path `Q` would break the rule
-//!   `UnresolvedPath` at the place `O::pick`. Each broken rule is told, in a report.
+//! - `reports_of` tests every name, path and lifetime, module by module, in the order of `bridge_order`. Were `y` a `&'b Q`, the path `Q`
+//!   would break the rule `UnresolvedPath` at the place `O::pick`. Each broken rule is told, in a report.
 //! - `borrowings_of` has what may be borrowed where no rule is broken: the inputs of each method are its leaves, `this` and `y`, each with the
 //!   lifetime that it carries. Under each lifetime that the return names, `'a`, those are listed that carry it or one that outlives
 //!   it. `print_page` prints them:
@@ -28,7 +27,6 @@
 mod borrow;
 mod borrowing;
 mod declarations;
-mod order;
 mod page;
 mod rules;
 mod spot;
@@ -37,6 +35,5 @@ pub use borrow::borrowings_of;
 pub use borrowing::{
     CallableReport, InputPlace, LeafPath, ReportEdge, ReportEdgeKind, ReturnedLifetime,
 };
-pub use order::module_order;
 pub use page::print_page;
 pub use rules::reports_of;

@@ -10,7 +10,7 @@ ghost use Rattle.bridge_check.specs.Checks.{path, Fails, type_paths, type_lifeti
 ghost use Rattle.bridge_text.specs.NameIndex.{Indexes};
 ghost use Rattle.bridge_check.specs.Breaks.{BreakNothing};
 ghost use Rattle.bridge_check.specs.Refused.{AreRefusedBy};
-ghost use Rattle.bridge_check.specs.Order.{module_order};
+ghost use Rattle.bridge_order.specs.Order.{module_order};
 ghost use Rattle.bridge_check.specs.inside.Reporting.{name_tests, path_tests, lifetime_tests, Reports};
 
 use crate::declarations::{

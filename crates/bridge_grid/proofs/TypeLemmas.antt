@@ -12,13 +12,13 @@ use Rattle.hir_lower.specs.declared.config.LoweringConfig.{LoweringConfig}
 use Rattle.hir_number.specs.declared.numbered.NumberedType.{NumberedType, out-NumberedType}
 use Rattle.hir_number.specs.declared.numbered.NumberedType.TheOpen.{NumberedType-F}
 use Rattle.hir_reports.specs.declared.rule.Rule.TheVariants as rule
-use Rattle.bridge_rules.specs.declared.catalog.Catalog.{Catalog}
-use Rattle.bridge_rules.specs.declared.catalog.Entry.{Entry}
-use Rattle.bridge_rules.specs.declared.catalog.Entry.TheVariants as entry
+use Rattle.bridge_order.specs.declared.catalog.Catalog.{Catalog}
+use Rattle.bridge_order.specs.declared.catalog.Entry.{Entry}
+use Rattle.bridge_order.specs.declared.catalog.Entry.TheVariants as entry
 use Rattle.bridge_rules.specs.declared.position.Position.{Position}
 use Rattle.bridge_rules.specs.declared.position.Position.TheVariants.{Param, CallbackParam, CallbackReturn}
 use Rattle.bridge_rules.specs.declared.shape.Shape.{Shape}
-use Rattle.bridge_rules.specs.Catalog.{entry_at}
+use Rattle.bridge_order.specs.Catalog.{entry_at}
 use Rattle.bridge_rules.specs.Shapes.{shape_of}
 use Rattle.bridge_rules.specs.Table.{cell_of, refs_flag}
 use Rattle.bridge_grid.specs.declared.fault.TypeFault.TheVariants.{Broken}

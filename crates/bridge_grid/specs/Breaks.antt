@@ -5,7 +5,7 @@ use Rattle.hir_backends.specs.declared.support.flag.SupportFlag.{SupportFlag}
 use Rattle.hir_backends.specs.Support.{flag_on}
 use Rattle.hir_number.specs.declared.numbered.NumberedType.{NumberedType}
 use Rattle.hir_reports.specs.declared.rule.Rule.TheVariants as rule
-use Rattle.bridge_rules.specs.declared.catalog.Catalog.{Catalog}
+use Rattle.bridge_order.specs.declared.catalog.Catalog.{Catalog}
 use Rattle.bridge_rules.specs.declared.position.Position.{Position}
 use Rattle.bridge_rules.specs.declared.shape.Shape.{Shape}
 use Rattle.bridge_rules.specs.Shapes.{shape_of}

@@ -2,7 +2,7 @@
 use Rattle.std.specs.Prelude.{List, [], ◌∷◌, Option, Some, None}
 use Rattle.hir_backends.specs.declared.support.BackendAttrSupport.{BackendAttrSupport}
 use Rattle.hir_number.specs.declared.numbered.NumberedType.{NumberedType}
-use Rattle.bridge_rules.specs.declared.catalog.Catalog.{Catalog}
+use Rattle.bridge_order.specs.declared.catalog.Catalog.{Catalog}
 use Rattle.bridge_rules.specs.declared.position.Position.{Position}
 use Rattle.bridge_rules.specs.declared.shape.Element.TheVariants as element
 use Rattle.bridge_rules.specs.declared.shape.Shape.{Shape}

@@ -9,10 +9,10 @@ use Rattle.hir_backends.specs.declared.support.BackendAttrSupport.{BackendAttrSu
 use Rattle.hir_backends.specs.declared.support.flag.SupportFlag.TheVariants as flag
 use Rattle.hir_life.specs.declared.maybe_static.MaybeStatic.{MaybeStatic}
 use Rattle.hir_reports.specs.declared.rule.Rule.TheVariants as rule
-use Rattle.bridge_rules.specs.declared.catalog.Catalog.{Catalog}
-use Rattle.bridge_rules.specs.declared.catalog.Entry.{Entry}
-use Rattle.bridge_rules.specs.declared.catalog.Entry.TheVariants as entry
-use Rattle.bridge_rules.specs.Catalog.{entry_at}
+use Rattle.bridge_order.specs.declared.catalog.Catalog.{Catalog}
+use Rattle.bridge_order.specs.declared.catalog.Entry.{Entry}
+use Rattle.bridge_order.specs.declared.catalog.Entry.TheVariants as entry
+use Rattle.bridge_order.specs.Catalog.{entry_at}
 use Rattle.bridge_rules.specs.Table.{refs_flag}
 use Rattle.bridge_grid.specs.declared.fault.TypeFault.{TypeFault}
 use Rattle.bridge_grid.specs.declared.fault.TypeFault.TheVariants.{Broken}

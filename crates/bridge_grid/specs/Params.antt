@@ -6,7 +6,7 @@ use Rattle.hir_lower.specs.declared.config.LoweringConfig.{LoweringConfig}
 use Rattle.hir_number.specs.declared.numbered.NumberedType.{NumberedType, out-NumberedType}
 use Rattle.hir_number.specs.declared.numbered.NumberedType.TheOpen.{NumberedType-F}
 use Rattle.hir_reports.specs.declared.rule.Rule.TheVariants as rule
-use Rattle.bridge_rules.specs.declared.catalog.Catalog.{Catalog}
+use Rattle.bridge_order.specs.declared.catalog.Catalog.{Catalog}
 use Rattle.bridge_rules.specs.declared.position.Position.TheVariants.{Param, CallbackParam, CallbackReturn}
 use Rattle.bridge_grid.specs.declared.fault.TypeFault.{TypeFault}
 use Rattle.bridge_grid.specs.declared.fault.TypeFault.TheVariants.{Broken}

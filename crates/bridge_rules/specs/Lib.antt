@@ -1,3 +1,2 @@
-pub mod Catalog
 pub mod Shapes
 pub mod Table

@@ -8,9 +8,9 @@ use Rattle.hir_life.specs.declared.maybe_static.MaybeStatic.{MaybeStatic}
 use Rattle.hir_ids.specs.declared.owners.Borrow.{Borrow}
 use Rattle.hir_number.specs.declared.numbered.NumberedType.{NumberedType, out-NumberedType}
 use Rattle.hir_number.specs.declared.numbered.NumberedType.TheOpen.{NumberedType-F}
-use Rattle.bridge_rules.specs.declared.catalog.Catalog.{Catalog}
-use Rattle.bridge_rules.specs.declared.catalog.Entry.{Entry}
-use Rattle.bridge_rules.specs.declared.catalog.Entry.TheVariants as entry
+use Rattle.bridge_order.specs.declared.catalog.Catalog.{Catalog}
+use Rattle.bridge_order.specs.declared.catalog.Entry.{Entry}
+use Rattle.bridge_order.specs.declared.catalog.Entry.TheVariants as entry
 use Rattle.bridge_rules.specs.declared.shape.Element.{Element}
 use Rattle.bridge_rules.specs.declared.shape.Element.TheVariants as element
 use Rattle.bridge_rules.specs.declared.shape.FlatSlice.{FlatSlice}
@@ -19,7 +19,7 @@ use Rattle.bridge_rules.specs.declared.shape.Shape.{Shape}
 use Rattle.bridge_rules.specs.declared.shape.Shape.TheVariants as shape
 use Rattle.bridge_rules.specs.declared.shape.Value.{Value}
 use Rattle.bridge_rules.specs.declared.shape.Value.TheVariants as value
-use Rattle.bridge_rules.specs.Catalog.{entry_at, id_of}
+use Rattle.bridge_order.specs.Catalog.{entry_at, id_of}
 
 -- ---- parts of shapes
 

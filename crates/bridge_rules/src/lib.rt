@@ -33,13 +33,12 @@
 //! tests them on its way.
 #![tactic(auto)]
 
-mod catalog;
 mod position;
 mod shape;
 mod sorting;
 mod table;
 
-pub use catalog::{Catalog, Entry};
+pub use bridge_order::{Catalog, Entry};
 pub use position::Position;
 pub use shape::{Element, FlatSlice, Shape, Value};
 pub use sorting::shape_of;

@@ -6,9 +6,9 @@ mod options;
 ghost use Rattle.std.specs.Prelude.{◌≡◌};
 ghost use Rattle.bridge_rules.specs.Shapes.{box_shape, item_shape, lent_for, named_entry, out_struct_value, reference_shape, shape_of, slice_borrow, slice_of_primitives, struct_value, text_slice};
 
-use crate::catalog::{Catalog, Entry};
 use crate::shape::{FlatSlice, Shape, Value};
 use bridge_decl::{Mutability, PrimitiveType, StringEncoding};
+use bridge_order::{Catalog, Entry};
 use elements::element_of;
 use hir_ids::Borrow;
 use hir_life::{Lifetime, MaybeStatic};

@@ -3,7 +3,7 @@ use Rattle.std.specs.Prelude.{◌≡◌, ℕ, List, slice_get}
 use Rattle.std.specs.List.{flat_map}
 use Rattle.bridge_decl.specs.declared.modules.Module.{Module}
 use Rattle.bridge_links.specs.LinkLines.{PlacedLink, links_page, module_links}
-use Rattle.bridge_check.specs.Order.{module_order, of_found}
+use Rattle.bridge_order.specs.Order.{module_order, of_found}
 use Rattle.bridge_read.specs.declared.input.Input.{Input}
 
 -- the links in the module of a number

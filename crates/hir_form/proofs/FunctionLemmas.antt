@@ -1,11 +1,11 @@
 -- Only a function has the shape of one.
 use Rattle.std.proofs.Common.{Option, Some, None}
 use Rattle.bridge_decl.specs.declared.types.StdlibOrDiplomat.{StdlibOrDiplomat}
-use Rattle.bridge_rules.specs.Catalog.{entry_at}
+use Rattle.bridge_order.specs.Catalog.{entry_at}
 use Rattle.bridge_rules.specs.Shapes.{box_shape, item_shape, lent_for, level_option, named_entry, option_of_box, option_of_item, option_of_reference, reference_shape, shape_of_level}
-use Rattle.bridge_rules.specs.declared.catalog.Catalog.{Catalog}
-use Rattle.bridge_rules.specs.declared.catalog.Entry.{Entry}
-use Rattle.bridge_rules.specs.declared.catalog.Entry.TheVariants as entry
+use Rattle.bridge_order.specs.declared.catalog.Catalog.{Catalog}
+use Rattle.bridge_order.specs.declared.catalog.Entry.{Entry}
+use Rattle.bridge_order.specs.declared.catalog.Entry.TheVariants as entry
 use Rattle.hir_ids.specs.declared.owners.Borrow.{Borrow}
 use Rattle.hir_number.specs.declared.numbered.NumberedType.{NumberedType, out-NumberedType}
 use Rattle.hir_number.specs.declared.numbered.NumberedType.TheOpen.{NumberedType-F}

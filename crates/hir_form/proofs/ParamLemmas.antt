@@ -7,7 +7,7 @@ use Rattle.bridge_grid.specs.Params.{callback_param_faults, in_param_faults, lev
 use Rattle.bridge_grid.specs.Returns.{returned_faults}
 use Rattle.bridge_grid.specs.declared.part.Part.TheVariants.{Whole}
 use Rattle.bridge_rules.specs.Shapes.{shape_of, shape_of_level}
-use Rattle.bridge_rules.specs.declared.catalog.Catalog.{Catalog}
+use Rattle.bridge_order.specs.declared.catalog.Catalog.{Catalog}
 use Rattle.bridge_rules.specs.declared.position.Position.TheVariants as at
 use Rattle.hir_backends.specs.declared.support.BackendAttrSupport.{BackendAttrSupport}
 use Rattle.hir_lower.specs.declared.config.LoweringConfig.{LoweringConfig}

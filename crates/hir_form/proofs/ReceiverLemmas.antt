@@ -2,11 +2,11 @@
 use Rattle.std.proofs.Common.{◌≡◌, [], true, Option, Some, None, is_some, refl}
 use Rattle.bridge_decl.specs.declared.types.Mutability.{Mutability}
 use Rattle.bridge_grid.specs.Items.{lent_receiver_faults, own_receiver_faults, receiver_faults}
-use Rattle.bridge_rules.specs.Catalog.{entry_at}
+use Rattle.bridge_order.specs.Catalog.{entry_at}
 use Rattle.bridge_rules.specs.Shapes.{lent_for}
-use Rattle.bridge_rules.specs.declared.catalog.Catalog.{Catalog}
-use Rattle.bridge_rules.specs.declared.catalog.Entry.{Entry}
-use Rattle.bridge_rules.specs.declared.catalog.Entry.TheVariants as entry
+use Rattle.bridge_order.specs.declared.catalog.Catalog.{Catalog}
+use Rattle.bridge_order.specs.declared.catalog.Entry.{Entry}
+use Rattle.bridge_order.specs.declared.catalog.Entry.TheVariants as entry
 use Rattle.hir_backends.specs.declared.support.BackendAttrSupport.{BackendAttrSupport}
 use Rattle.hir_ids.specs.declared.owners.Borrow.{Borrow}
 use Rattle.hir_life.specs.declared.maybe_static.MaybeStatic.{MaybeStatic}

@@ -6,7 +6,7 @@ use Rattle.bridge_grid.specs.Faults.{type_faults}
 use Rattle.bridge_grid.specs.Returns.{is_pointer, level_result_part, level_returned, level_returned_option, result_part_faults, returned_faults}
 use Rattle.bridge_grid.specs.declared.part.Part.{Part}
 use Rattle.bridge_grid.specs.declared.part.Part.TheVariants.{Whole, Inside, Error}
-use Rattle.bridge_rules.specs.declared.catalog.Catalog.{Catalog}
+use Rattle.bridge_order.specs.declared.catalog.Catalog.{Catalog}
 use Rattle.bridge_rules.specs.declared.position.Position.{Position}
 use Rattle.hir_backends.specs.declared.support.BackendAttrSupport.{BackendAttrSupport}
 use Rattle.hir_number.specs.declared.numbered.NumberedType.{NumberedType, out-NumberedType}

@@ -1,11 +1,11 @@
 -- What a receiver stands for.
 use Rattle.std.specs.Prelude.{ℕ, Option, Some, None}
 use Rattle.bridge_decl.specs.declared.types.Mutability.{Mutability}
-use Rattle.bridge_rules.specs.Catalog.{entry_at}
+use Rattle.bridge_order.specs.Catalog.{entry_at}
 use Rattle.bridge_rules.specs.Shapes.{slice_borrow}
-use Rattle.bridge_rules.specs.declared.catalog.Catalog.{Catalog}
-use Rattle.bridge_rules.specs.declared.catalog.Entry.{Entry}
-use Rattle.bridge_rules.specs.declared.catalog.Entry.TheVariants as entry
+use Rattle.bridge_order.specs.declared.catalog.Catalog.{Catalog}
+use Rattle.bridge_order.specs.declared.catalog.Entry.{Entry}
+use Rattle.bridge_order.specs.declared.catalog.Entry.TheVariants as entry
 use Rattle.hir_ids.specs.Owners.{owner_of}
 use Rattle.hir_ids.specs.declared.owners.Borrow.{Borrow}
 use Rattle.hir_life.specs.declared.maybe_static.MaybeStatic.{MaybeStatic}

@@ -2,7 +2,7 @@
 use Rattle.std.specs.Prelude.{Option, Some, None, option_map}
 use Rattle.bridge_decl.specs.declared.types.WriteType.{WriteType}
 use Rattle.bridge_decl.specs.declared.types.WriteType.TheVariants as declared
-use Rattle.bridge_rules.specs.declared.catalog.Catalog.{Catalog}
+use Rattle.bridge_order.specs.declared.catalog.Catalog.{Catalog}
 use Rattle.hir_number.specs.declared.numbered.NumberedType.{NumberedType, out-NumberedType}
 use Rattle.hir_number.specs.declared.numbered.NumberedType.TheOpen.{NumberedType-F}
 use Rattle.hir_types.specs.declared.returns.ReturnType.{ReturnType}

@@ -7,7 +7,7 @@ use Rattle.bridge_grid.specs.Items.{receiver_faults, writer_faults}
 use Rattle.bridge_grid.specs.Params.{param_faults}
 use Rattle.bridge_grid.specs.Returns.{returned_faults}
 use Rattle.bridge_grid.specs.declared.fault.TypeFault.{TypeFault}
-use Rattle.bridge_rules.specs.declared.catalog.Catalog.{Catalog}
+use Rattle.bridge_order.specs.declared.catalog.Catalog.{Catalog}
 use Rattle.bridge_rules.specs.declared.position.Position.TheVariants.{Return}
 use Rattle.hir_backends.specs.declared.support.BackendAttrSupport.{BackendAttrSupport}
 use Rattle.hir_life.specs.declared.maybe_static.MaybeStatic.{MaybeStatic}

@@ -1,6 +1,6 @@
 -- What a type stands for at a position.
 use Rattle.std.specs.Prelude.{[], Option}
-use Rattle.bridge_rules.specs.declared.catalog.Catalog.{Catalog}
+use Rattle.bridge_order.specs.declared.catalog.Catalog.{Catalog}
 use Rattle.bridge_rules.specs.Shapes.{shape_of}
 use Rattle.hir_number.specs.declared.numbered.NumberedType.{NumberedType, fold-NumberedType}
 use Rattle.hir_number.specs.declared.numbered.NumberedType.TheOpen.{NumberedType-F}

@@ -3,10 +3,10 @@
 ghost use Rattle.std.specs.Prelude.{◌≡◌};
 ghost use Rattle.bridge_rules.specs.Shapes.{element_item, element_of, element_option, element_reference, optional_element};
 
-use crate::catalog::{Catalog, Entry};
 use crate::shape::{Element, Value};
 use crate::sorting::{lent_for, named_entry, out_struct_value, struct_value};
 use bridge_decl::StdlibOrDiplomat;
+use bridge_order::{Catalog, Entry};
 use hir_ids::Borrow;
 use hir_number::NumberedType;
 

@@ -3,12 +3,12 @@
 ghost use Rattle.std.specs.Prelude.{◌≡◌};
 ghost use Rattle.bridge_rules.specs.Shapes.{option_of_box, option_of_item, option_of_reference, option_shape};
 
-use crate::catalog::{Catalog, Entry};
 use crate::shape::{Shape, Value};
 use crate::sorting::{
     lent_for, named_entry, out_struct_value, slice_of_primitives, struct_value, text_slice,
 };
 use bridge_decl::StdlibOrDiplomat;
+use bridge_order::{Catalog, Entry};
 use hir_ids::Borrow;
 use hir_number::NumberedType;
 

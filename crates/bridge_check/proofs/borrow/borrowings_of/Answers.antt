@@ -2,7 +2,7 @@ use Rattle.std.proofs.Common.{[], take, get_or}
 use Rattle.std.proofs.lemmas.List.{get_or_default}
 use Rattle.std.specs.List.{flat_map}
 use Rattle.bridge_check.specs.Borrows.{callables_at}
-use Rattle.bridge_check.specs.Order.{module_order}
+use Rattle.bridge_order.specs.Order.{module_order}
 use Rattle.bridge_check.proofs.BorrowingLemmas.{borrowings_more, borrowings_all}
 use Rattle.bridge_check.proofs.SoundLemmas.{sound_items}
 use Rattle.bridge_check.proofs.TestLemmas.{names_pass}

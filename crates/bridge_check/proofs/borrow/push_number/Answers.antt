@@ -1,7 +1,7 @@
 use Rattle.std.proofs.Common.{sym}
 use Rattle.bridge_check.specs.inside.Signatures.{HasSoundItems}
 use Rattle.bridge_check.specs.inside.Signatures.{HasNamedItems}
-use Rattle.bridge_check.proofs.OrderLemmas.{all_got}
+use Rattle.bridge_order.proofs.OrderLemmas.{all_got}
 use Rattle.bridge_check.proofs.borrow.push_number.Goals as goal
 
 pub push_module-requires-clause-sound : goal.push_module-requires-clause-sound

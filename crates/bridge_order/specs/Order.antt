@@ -3,9 +3,10 @@
 use Rattle.std.specs.Prelude.{ℕ, zero, suc, ◌+◌, max, List, [], ◌∷◌, ◌++◌, length, ◌==◌, Bool, true, false, Option, Some, None}
 use Rattle.bridge_decl.specs.declared.modules.Module.{Module}
 
-abbrev pub where_there : Bool → ℕ → List ℕ
-where_there true n = n ∷ []
-where_there false n = []
+-- the one, where it is there
+abbrev pub where_there : {A : Type 0} → Bool → A → List A
+where_there true x = x ∷ []
+where_there false x = []
 
 -- the numbers of the modules whose paths have so many segments, in order; the first module of the list has the number n
 abbrev pub at_depth : ℕ → ℕ → List Module → List ℕ

@@ -1,9 +1,9 @@
 use Rattle.std.proofs.Common.{◌++◌, ap, sym, ◌∙◌, take}
 use Rattle.std.specs.Prelude.{◌==◌}
 use Rattle.std.proofs.lemmas.List.{append_assoc}
-use Rattle.bridge_check.specs.Order.{at_depth, where_there}
-use Rattle.bridge_check.proofs.OrderLemmas.{depth_next}
-use Rattle.bridge_check.proofs.order.add_at_depth.Goals as goal
+use Rattle.bridge_order.specs.Order.{at_depth, where_there}
+use Rattle.bridge_order.proofs.OrderLemmas.{depth_next}
+use Rattle.bridge_order.proofs.order.add_at_depth.Goals as goal
 
 pub loop-number-preserved : goal.loop-number-preserved
 loop-number-preserved c =

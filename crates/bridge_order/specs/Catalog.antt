@@ -1,9 +1,9 @@
 -- What the items of an environment are, by their places.
 use Rattle.std.specs.Prelude.{ℕ, List, Option, Some, None, slice_get}
 use Rattle.bridge_ast.specs.declared.place.ItemPlace.{ItemPlace}
-use Rattle.bridge_rules.specs.declared.catalog.Catalog.{Catalog}
-use Rattle.bridge_rules.specs.declared.catalog.Entry.{Entry}
-use Rattle.bridge_rules.specs.declared.catalog.Entry.TheVariants as entry
+use Rattle.bridge_order.specs.declared.catalog.Catalog.{Catalog}
+use Rattle.bridge_order.specs.declared.catalog.Entry.{Entry}
+use Rattle.bridge_order.specs.declared.catalog.Entry.TheVariants as entry
 
 -- the number of an item among those of its kind
 abbrev pub id_of : Entry → ℕ

@@ -1,7 +1,7 @@
 //! What the items of an environment are.
 
 ghost use Rattle.std.specs.Prelude.{◌≡◌};
-ghost use Rattle.bridge_rules.specs.Catalog.{entry_in, id_of};
+ghost use Rattle.bridge_order.specs.Catalog.{entry_in, id_of};
 
 use bridge_ast::ItemPlace;
 use bridge_decl::{Items, Mutability};
@@ -56,7 +56,7 @@ fn entry_in(items: &Items<Entry>, item: usize) -> Entry
 }
 
 impl Catalog {
-    ghost use Rattle.bridge_rules.specs.Catalog.{entry_at};
+    ghost use Rattle.bridge_order.specs.Catalog.{entry_at};
 
     /// What stands at a place. A place that the catalog doesn't have counts as an enum: paths that
     /// name nothing are refused before.

@@ -1,7 +1,7 @@
 //! The order in which modules are gone through.
 
 ghost use Rattle.std.specs.Prelude.{◌≡◌, ◌++◌, IfOk, OnOk};
-ghost use Rattle.bridge_check.specs.Order.{at_depth, deepest, module_order, where_there};
+ghost use Rattle.bridge_order.specs.Order.{at_depth, deepest, module_order, where_there};
 
 use bridge_ast::{Module, NoMemory};
 use std::alloc::Global;

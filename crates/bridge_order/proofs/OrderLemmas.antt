@@ -5,7 +5,7 @@ use Rattle.std.proofs.lemmas.Bool.{eq-eqb, eqb-true, eqb-false}
 use Rattle.std.proofs.lemmas.List.{append-nil, append_assoc, take_more}
 use Rattle.std.proofs.lemmas.List.Elements.{Contains-append_left, Contains-append_right}
 use Rattle.bridge_decl.specs.declared.modules.Module.{Module}
-use Rattle.bridge_check.specs.Order.{at_depth, deepest, shallower, module_order, where_there}
+use Rattle.bridge_order.specs.Order.{at_depth, deepest, shallower, module_order, where_there}
 
 -- ---- one module more
 
