@@ -1,14 +1,13 @@
 //! Which inputs the returned value of a callable may borrow.
 
-ghost use Rattle.std.specs.Prelude.{◌≡◌, ◌<◌, ◌↔◌, [], ◌∷◌, ◌++◌, ℕ, List, Bool, length, map, All, Any, IfOk, OnOk, IsTrue, option_to_list};
+ghost use Rattle.std.specs.Prelude.{◌≡◌, ◌<◌, ◌↔◌, [], ◌∷◌, ◌++◌, ℕ, List, length, map, All, Any, IfOk, OnOk, IsTrue, option_to_list};
 ghost use Rattle.std.specs.Option.{option_copied};
 ghost use Rattle.hir_life.specs.Environment.{Environment, longer_of};
 ghost use Rattle.hir_life.specs.Flags.{FlagsOutliving};
 ghost use Rattle.hir_life.specs.Outlives.{Outlives};
 ghost use Rattle.bridge_decl.specs.declared.lifetimes.LifetimeEnv.{LifetimeEnv as Signature};
 ghost use Rattle.bridge_decl.specs.declared.methods.Method.{Method as Declared};
-ghost use Rattle.bridge_decl.specs.Lifetimes.{lifetime_names, declared_longer, IsSoundEnvironment};
-ghost use Rattle.bridge_text.specs.Ident.{IsIdent};
+ghost use Rattle.bridge_decl.specs.Lifetimes.{lifetime_names, IsSoundEnvironment};
 ghost use Rattle.bridge_ast.specs.Sound.{AreSound};
 ghost use Rattle.bridge_check.specs.Borrows.{numbers, leaves_at, param_leaves, leaves as leaves_in, returned_numbers, IsReturned, Callable, callables_of, callables_in, IsCallableBorrowing, AreBorrowings, callables_at};
 ghost use Rattle.bridge_check.specs.Breaks.{BreakNothing};

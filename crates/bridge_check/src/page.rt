@@ -1,15 +1,13 @@
 //! The page of accepted declarations: what each callable's returned value may borrow.
 
-ghost use Rattle.std.specs.Prelude.{◌≡◌, ◌++◌, List, map, length, drop, codes, decimal};
+ghost use Rattle.std.specs.Prelude.{◌≡◌, ◌++◌, length, drop, codes, decimal};
 ghost use Rattle.std.specs.List.{flat_map, join_by};
 ghost use Rattle.std.specs.Option.{option_copied};
-ghost use Rattle.bridge_decl.specs.Names.{item_name};
 ghost use Rattle.bridge_check.specs.Borrows.{callables_of, callables_in, callables, callables_at};
-ghost use Rattle.bridge_check.specs.Page.{input_text, leaf_text, edge_text, optional_text, opening, lifetime_text, paths_line, edges_line, returned_text, prefix_text, callable_place_text, callable_text, callables_text, page_of};
+ghost use Rattle.bridge_check.specs.Page.{input_text, leaf_text, edge_text, optional_text, opening, lifetime_text, paths_line, edges_line, returned_text, prefix_text, callable_text, callables_text, page_of};
 ghost use Rattle.bridge_check.specs.inside.TextParts.{text_with};
 ghost use Rattle.bridge_order.specs.Order.{module_order};
 ghost use Rattle.bridge_outside.specs.Printing.{Prints, Delivers, separator_at};
-ghost use Rattle.bridge_check.specs.Methods.{methods_of};
 
 use crate::borrowing::{
     CallableReport, InputPlace, LeafPath, ReportEdge, ReportEdgeKind, ReturnedLifetime,

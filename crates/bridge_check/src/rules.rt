@@ -6,7 +6,7 @@ ghost use Rattle.std.specs.Option.{option_copied};
 ghost use Rattle.bridge_decl.specs.declared.modules.Module.{Module as Declared};
 ghost use Rattle.bridge_decl.specs.declared.types.TypeName.{out-TypeName};
 ghost use Rattle.bridge_decl.specs.Lifetimes.{lifetime_names};
-ghost use Rattle.bridge_check.specs.Checks.{path, Fails, type_paths, type_lifetimes, method_names, method_paths, method_lifetimes, tested_in_method, tested_in_item, tested_in_module, tested_in, tested_at_number};
+ghost use Rattle.bridge_check.specs.Checks.{path, Fails, type_paths, type_lifetimes, method_names, method_paths, method_lifetimes, tested_in_method, tested_in_item, tested_in_module, tested_at_number};
 ghost use Rattle.bridge_text.specs.NameIndex.{Indexes};
 ghost use Rattle.bridge_check.specs.Breaks.{BreakNothing};
 ghost use Rattle.bridge_check.specs.Refused.{AreRefusedBy};

@@ -3,7 +3,7 @@
 mod elements;
 mod simple_tests;
 
-ghost use Rattle.std.specs.Prelude.{◌≡◌, ◌++◌, ◌∷◌, [], IfOk, List};
+ghost use Rattle.std.specs.Prelude.{◌≡◌, ◌++◌, ◌∷◌, [], IfOk};
 ghost use Rattle.bridge_grid.specs.Asked.{bytes, cell_faults, denied, denied_if, mark_faults, muts, of_box, of_opaque, of_value, statics, told_if};
 
 use crate::fault::{TypeFault, TypeFaults};

@@ -1,14 +1,14 @@
 //! The page of the links to documentation.
 
-ghost use Rattle.std.specs.Prelude.{◌≡◌, IfOk, OnOk, List};
+ghost use Rattle.std.specs.Prelude.{◌≡◌, IfOk, OnOk};
 ghost use Rattle.std.specs.List.{flat_map};
 ghost use Rattle.bridge_order.specs.Order.{module_order};
 ghost use Rattle.bridge_links.specs.LinkLines.{with_links};
 ghost use Rattle.bridge_tool.specs.DocsPage.{docs_page, links_at};
 
 use bridge_ast::{Module, NoMemory, Text};
-use bridge_order::module_order;
 use bridge_links::LinkLines;
+use bridge_order::module_order;
 use bridge_read::Input;
 use hir_docs::DocsUrlGenerator;
 use sqlite_items::at;

@@ -2,7 +2,7 @@
 
 ghost use Rattle.std.specs.Prelude.{◌≡◌};
 ghost use Rattle.hir_form.specs.inside.Makes.{Makes};
-ghost use Rattle.hir_form.specs.ParamForms.{callback_form, callback_param_form, callback_params_form, callback_return_form, param_form, params_form};
+ghost use Rattle.hir_form.specs.ParamForms.{callback_form, callback_param_form, callback_params_form, callback_return_form, param_form};
 
 use crate::returns::lower_return;
 use crate::stop::Stop;

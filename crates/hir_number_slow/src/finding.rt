@@ -2,7 +2,7 @@
 
 ghost use Rattle.std.specs.Prelude.{◌≡◌, ◌<◌, length, option_map};
 ghost use Rattle.bridge_ast.specs.Types.{trait_seen, type_seen};
-ghost use Rattle.hir_number.specs.Naming.{IsNaming, Naming, trait_found, type_found};
+ghost use Rattle.hir_number.specs.Naming.{IsNaming, Naming, trait_found};
 ghost use Rattle.hir_number_slow.specs.Seen.{found_seen};
 ghost use Rattle.hir_number_slow.specs.inside.Parts.{definition_found};
 

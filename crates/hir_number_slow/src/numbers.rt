@@ -1,6 +1,6 @@
 //! The numbers of uses, each by what stands before it alone.
 
-ghost use Rattle.std.specs.Prelude.{◌≡◌, ◌∷◌, [], Bool, map, IfOk, OnOk};
+ghost use Rattle.std.specs.Prelude.{◌≡◌, ◌∷◌, [], map, IfOk, OnOk};
 ghost use Rattle.hir_elide.specs.Elision.{elided};
 ghost use Rattle.hir_elide.specs.Generics.{all_or_fault, lowered_generics};
 ghost use Rattle.hir_elide.specs.Phases.{lowered, lowered_each, with_uses};

@@ -1,6 +1,6 @@
 //! The occurrences of lifetimes, of which each use gives some, by the uses before it.
 
-ghost use Rattle.std.specs.Prelude.{◌≡◌, ◌++◌, ◌-◌, length, map, option_map, replicate, IfOk, OnOk};
+ghost use Rattle.std.specs.Prelude.{◌≡◌, ◌++◌, ◌-◌, map, option_map, replicate, IfOk, OnOk};
 ghost use Rattle.bridge_decl.specs.declared.lifetimes.Lifetime.TheVariants as written;
 ghost use Rattle.hir_number.specs.Occurrences.{appearing, has_own, is_own_use, meets_self, occurrences, use_occurrences};
 ghost use Rattle.hir_number.specs.Uses.{lifetimes_used};
