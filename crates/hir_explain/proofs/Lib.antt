@@ -1,1 +1,4 @@
 pub mod Tests
+pub mod Finding
+pub mod Growing
+pub mod Chaining

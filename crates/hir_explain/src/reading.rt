@@ -2,7 +2,7 @@
 
 ghost use Rattle.std.specs.Prelude.{◌≡◌, ◌<◌, ◌↔◌, IsTrue};
 ghost use Rattle.std.specs.List.{All, Contains};
-ghost use Rattle.hir_life.specs.Environment.{longer_of};
+ghost use Rattle.hir_life.specs.Environment.{IsSound, longer_of};
 ghost use Rattle.hir_life.specs.Outlives.{Direct};
 ghost use Rattle.hir_life.specs.Substitution.{AreBelow, IsBelow};
 ghost use Rattle.hir_explain.specs.Explanations.{IsCarried};
@@ -11,8 +11,10 @@ use hir_life::{Lifetime, LifetimeEnv, MaybeStatic};
 
 /// The lifetimes that are declared to outlive this one.
 pub(crate) fn longer_than(env: &LifetimeEnv, lifetime: Lifetime) -> &[Lifetime]
-    ensures { result.now ≡ longer_of env.now lifetime }
+    ensures bounds { result.now ≡ longer_of env.now lifetime }
+    ensures sound { IsSound env.now }
 {
+    let _count = env.num_lifetimes();
     match env.get_bounds(lifetime) {
         Some(bounded) => bounded.longer.as_slice(),
         None => &[],
