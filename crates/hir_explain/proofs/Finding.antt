@@ -186,3 +186,8 @@ reaches_new was f after l view same grown =
       grown = inr grown;
       has = subst (λ x. Contains x l) (sym grown) (Contains-push was.reached l);
     })
+
+-- what is known where there is nothing
+pub none_from : (o : Option ℕ) (P : Type 0) (Q : ℕ → Type 0) → is_some o ≡ false → MatchOption o P Q → P
+none_from None P Q off says = says
+none_from (Some place) P Q off says = absurd (false≢true (sym off))

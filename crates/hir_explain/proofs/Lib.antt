@@ -2,3 +2,5 @@ pub mod Tests
 pub mod Finding
 pub mod Growing
 pub mod Chaining
+pub mod Gathering
+pub mod Meaning

@@ -2,6 +2,7 @@
 
 ghost use Rattle.std.specs.Prelude.{◌≡◌, ◌↔◌, ℕ, ◌<◌, length, slice_index, IfOk, MatchOption};
 ghost use Rattle.std.specs.List.{All, Contains};
+ghost use Rattle.hir_life.specs.Environment.{IsSound};
 ghost use Rattle.hir_life.specs.Substitution.{AreBelow, IsBelow};
 ghost use Rattle.hir_explain.specs.Explanations.{IsCarried, IsListed, Proves, SaysListed};
 ghost use Rattle.hir_explain.specs.inside.Numbers.{HasNumber};
@@ -96,6 +97,7 @@ fn all_reached(
     ensures list { IfOk result (λ list. (l : ℕ) → l < env.now.count
         → (Contains list l ↔ Contains search.now.reached l)) }
     ensures within { IfOk result (λ list. All (λ l. l < env.now.count) list) }
+    ensures sound { IsSound env.now }
 {
     let mut list = LifetimeList::new(alloc);
     for number in 0..env.num_lifetimes() {
