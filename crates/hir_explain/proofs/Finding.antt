@@ -34,7 +34,7 @@ pub found_most :
     → length order ≤ n
 found_most order places n placed within = distinct_below order n (placed_once order places placed) within
 
-within_more :
+pub within_more :
     (order : List ℕ) (l n : ℕ) → l < n → ((k : ℕ) → Contains order k → k < n) → (k : ℕ) → Contains (order ++ l ∷ []) k → k < n
 within_more order l n below within k h =
     elim (Contains-push_cases order l k h) [

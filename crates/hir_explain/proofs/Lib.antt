@@ -4,3 +4,4 @@ pub mod Growing
 pub mod Chaining
 pub mod Gathering
 pub mod Meaning
+pub mod Closing

@@ -24,6 +24,12 @@ pub record IsListed (e : Environment) (carried : List (MaybeStatic ℕ)) (t : �
 abbrev pub IsSteady : Environment → List ℕ → Type 0
 IsSteady e long = (l s : ℕ) → Contains long s → Direct (longer_of e) l s → Contains long l
 
+-- some lifetime that the leaf carries is among the long ones: b among a, b
+pub record HasCarried (carried : List (MaybeStatic ℕ)) (long : List ℕ) : Type 0 where
+  pub carrier : ℕ
+  pub is_carried : IsCarried carried carrier
+  pub has : Contains long carrier
+
 -- the list begins with a carried lifetime and ends with t, and each of its lifetimes is a direct bound of its successor: b, a
 abbrev pub IsChain : Environment → List (MaybeStatic ℕ) → ℕ → List ℕ → Type 0
 IsChain e carried t [] = ⊥
