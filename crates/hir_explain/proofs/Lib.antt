@@ -5,3 +5,4 @@ pub mod Chaining
 pub mod Gathering
 pub mod Meaning
 pub mod Closing
+pub mod Ascending

@@ -2,17 +2,24 @@
 
 ghost use Rattle.std.specs.Prelude.{◌≡◌, ◌↔◌, ℕ, IsTrue};
 ghost use Rattle.std.specs.List.{Contains};
+ghost use Rattle.std.specs.List.Sorted.{IsNonDecreasing};
 ghost use Rattle.hir_life.specs.Environment.{longer_of};
 ghost use Rattle.hir_life.specs.Outlives.{Direct, Linked};
 ghost use Rattle.hir_explain.specs.Explanations.{IsCarried, IsChain, IsSteady, Proves, Separates, Shows, numbers};
 ghost use Rattle.hir_explain.specs.inside.Numbers.{HasNumber};
 
 use crate::explanations::Explanation;
-use crate::reading::{are_carried_within, are_within, has, is_carried, is_direct, longer_than};
+use crate::reading::{
+    are_carried_within, are_within, do_ascend, has, has_in, is_carried, is_direct, longer_than,
+};
 use hir_life::{Lifetime, LifetimeEnv, Lifetimes, MaybeStatic};
 
 /// Whether the explanation proves what it says of a leaf that carries these lifetimes: true on a chain only where the leaf is
 /// listed under `t`, and true on separating lifetimes only where it isn't, whoever made the explanation.
+///
+/// It takes no memory. A chain costs one look at the bounds of each of its lifetimes. Separating lifetimes that ascend, as those
+/// of `explain_leaf` do, are searched by halves: the cost is that of the carried lifetimes and of the bounds of the long ones,
+/// times the binary digits of the length of the list. In another order each of them is sought through the whole list.
 pub fn check_explanation(
     env: &LifetimeEnv,
     carried: &Lifetimes,
@@ -91,15 +98,17 @@ fn separates(
 ) -> bool
     ensures { IsTrue result ↔ Separates env.now carried.now t long.now }
 {
-    has(long, t) && is_apart(carried, long) && is_steady(env, long)
+    let ascends = do_ascend(long);
+    has(long, t) && is_apart(carried, long, ascends) && is_steady(env, long, ascends)
 }
 
 /// Whether no lifetime of the list is carried.
-fn is_apart(carried: &[MaybeStatic<Lifetime>], long: &[Lifetime]) -> bool
+fn is_apart(carried: &[MaybeStatic<Lifetime>], long: &[Lifetime], ascends: bool) -> bool
+    requires { IsTrue ascends → IsNonDecreasing long.now }
     ensures { IsTrue result ↔ ((l : ℕ) → IsCarried carried.now l → Contains long.now l → ⊥) }
 {
     for lifetime in carried {
-        if has_carried(long, *lifetime) {
+        if has_carried(long, ascends, *lifetime) {
             return false;
         }
     }
@@ -107,21 +116,23 @@ fn is_apart(carried: &[MaybeStatic<Lifetime>], long: &[Lifetime]) -> bool
 }
 
 /// Whether this is a lifetime of the list, and not `'static`.
-fn has_carried(long: &[Lifetime], carried: MaybeStatic<Lifetime>) -> bool
+fn has_carried(long: &[Lifetime], ascends: bool, carried: MaybeStatic<Lifetime>) -> bool
+    requires { IsTrue ascends → IsNonDecreasing long.now }
     ensures { IsTrue result ↔ HasNumber long.now carried }
 {
     match carried {
         MaybeStatic::Static => false,
-        MaybeStatic::NonStatic(lifetime) => has(long, lifetime),
+        MaybeStatic::NonStatic(lifetime) => has_in(long, ascends, lifetime),
     }
 }
 
 /// Whether the list has with each lifetime those that are declared to outlive it.
-fn is_steady(env: &LifetimeEnv, long: &[Lifetime]) -> bool
+fn is_steady(env: &LifetimeEnv, long: &[Lifetime], ascends: bool) -> bool
+    requires { IsTrue ascends → IsNonDecreasing long.now }
     ensures { IsTrue result ↔ IsSteady env.now long.now }
 {
     for lifetime in long {
-        if !has_all(long, longer_than(env, *lifetime)) {
+        if !has_all(long, ascends, longer_than(env, *lifetime)) {
             return false;
         }
     }
@@ -129,11 +140,12 @@ fn is_steady(env: &LifetimeEnv, long: &[Lifetime]) -> bool
 }
 
 /// Whether the first list has all lifetimes of the second.
-fn has_all(list: &[Lifetime], lifetimes: &[Lifetime]) -> bool
+fn has_all(list: &[Lifetime], ascends: bool, lifetimes: &[Lifetime]) -> bool
+    requires { IsTrue ascends → IsNonDecreasing list.now }
     ensures { IsTrue result ↔ ((l : ℕ) → Contains lifetimes.now l → Contains list.now l) }
 {
     for lifetime in lifetimes {
-        if !has(list, *lifetime) {
+        if !has_in(list, ascends, *lifetime) {
             return false;
         }
     }

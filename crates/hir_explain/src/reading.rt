@@ -2,6 +2,7 @@
 
 ghost use Rattle.std.specs.Prelude.{◌≡◌, ◌<◌, ◌↔◌, IsTrue};
 ghost use Rattle.std.specs.List.{All, Contains};
+ghost use Rattle.std.specs.List.Sorted.{IsNonDecreasing};
 ghost use Rattle.hir_life.specs.Environment.{IsSound, longer_of};
 ghost use Rattle.hir_life.specs.Outlives.{Direct};
 ghost use Rattle.hir_life.specs.Substitution.{AreBelow, IsBelow};
@@ -31,6 +32,33 @@ pub(crate) fn has(list: &[Lifetime], lifetime: Lifetime) -> bool
         }
     }
     false
+}
+
+/// Whether the lifetimes ascend, so that `has_in` halves the list at each step.
+pub(crate) fn do_ascend(list: &[Lifetime]) -> bool
+    ensures { IsTrue result → IsNonDecreasing list.now }
+{
+    list.is_sorted()
+}
+
+/// Whether the lifetime stands in the list, of which it is known whether it ascends.
+pub(crate) fn has_in(list: &[Lifetime], ascends: bool, lifetime: Lifetime) -> bool
+    requires { IsTrue ascends → IsNonDecreasing list.now }
+    ensures { IsTrue result ↔ Contains list.now lifetime }
+{
+    if ascends {
+        ascending_has(list, lifetime)
+    } else {
+        has(list, lifetime)
+    }
+}
+
+/// Whether the lifetime stands in the list, which ascends.
+fn ascending_has(list: &[Lifetime], lifetime: Lifetime) -> bool
+    requires { IsNonDecreasing list.now }
+    ensures { IsTrue result ↔ Contains list.now lifetime }
+{
+    list.binary_search(&lifetime).is_ok()
 }
 
 /// Whether the first lifetime is declared to outlive the second.
