@@ -1,5 +1,5 @@
 -- Lists of numbers that ascend.
-use Rattle.std.proofs.Common.{◌≡◌, ℕ, ◌<◌, ◌≤◌, ◌↔◌, inl, inr, Bool, true, false, IsTrue, Some, Result, Ok, Err, is_ok, List, length, get_or, refl, sym, ◌∙◌, subst, arith}
+use Rattle.std.proofs.Common.{◌≡◌, ℕ, ◌<◌, ◌≤◌, ◌↔◌, inl, inr, Bool, true, false, IsTrue, Some, Result, Ok, Err, is_ok, List, length, get_or, sym, ◌∙◌, subst, arith}
 use Rattle.std.specs.List.{Contains, IsAllAdjacentAnswer}
 use Rattle.std.specs.List.Sorted.{IsBinarySearchResult, IsNonDecreasing}
 use Rattle.std.specs.Ordering.{is_le, is_some_and, nat_cmp}

@@ -1,5 +1,5 @@
 -- A search from one lifetime to the next.
-use Rattle.std.proofs.Common.{◌≡◌, ◌≢◌, ℕ, false, is_some, MatchOption, ◌+◌, ◌<◌, ◌≤◌, ◌↔◌, inl, inr, Option, Some, None, List, [], ◌∷◌, ◌++◌, length, get_or, set, refl, sym, ◌∙◌, ap, subst, arith, get_or-set_other, get_or-set_same, length-append}
+use Rattle.std.proofs.Common.{◌≡◌, ◌≢◌, ℕ, false, is_some, MatchOption, ◌<◌, ◌≤◌, ◌↔◌, inl, inr, Option, Some, None, List, [], ◌∷◌, ◌++◌, length, get_or, set, refl, sym, ◌∙◌, ap, subst, arith, get_or-set_other, get_or-set_same, length-append}
 use Rattle.std.specs.List.{Contains}
 use Rattle.std.proofs.Math.ListN.{get_or-append}
 use Rattle.std.proofs.Math.Seq.{get_or-append_seam}

@@ -1,17 +1,15 @@
 -- What explanations mean.
-use Rattle.std.proofs.Common.{◌≡◌, ℕ, ◌<◌, ◌↔◌, List, [], ◌∷◌, get_or, length, sym, ◌∙◌, ap, subst, arith}
+use Rattle.std.proofs.Common.{◌≡◌, ℕ, ◌<◌, ◌↔◌, List, [], ◌∷◌, get_or, sym, ◌∙◌, subst}
 use Rattle.std.specs.List.{All, Contains}
 use Rattle.std.proofs.lemmas.Grind.{get_or_default_zero}
 use Rattle.std.proofs.lemmas.List.Elements.{All-contains, Contains-get_or}
 use Rattle.hir_life.specs.Environment.{Environment, IsSound, longer_of}
 use Rattle.hir_life.specs.Outlives.{Direct, Linked}
-use Rattle.hir_life.specs.Substitution.{AreBelow}
 use Rattle.hir_life.specs.declared.maybe_static.MaybeStatic.{MaybeStatic}
 use Rattle.hir_life.specs.declared.walks.Direction.TheVariants.{Longer}
 use Rattle.hir_life.proofs.Chains.{closed_has_longer}
 use Rattle.hir_life.proofs.Following.{bound_within}
-use Rattle.hir_explain.specs.declared.explanations.Explanation.TheVariants.{Chain, Separating}
-use Rattle.hir_explain.specs.Explanations.{IsCarried, IsChain, IsListed, Proves, Separates}
+use Rattle.hir_explain.specs.Explanations.{IsCarried, IsChain, IsListed, Separates}
 use Rattle.hir_explain.specs.inside.Searching.{Found, IsChainFrom, IsComplete}
 
 -- a chain shows that the leaf is listed

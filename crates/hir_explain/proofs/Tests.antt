@@ -1,9 +1,9 @@
 -- What tests of lists say, one element after another.
-use Rattle.std.proofs.Common.{◌≡◌, ℕ, ◌+◌, ◌<◌, ◌≤◌, ◌↔◌, ◌⊎◌, inl, inr, Bool, true, false, IsTrue, List, [], ◌∷◌, ◌++◌, length, get_or, take, sym, ◌∙◌, ap, subst}
+use Rattle.std.proofs.Common.{◌≡◌, ℕ, ◌+◌, ◌<◌, ◌≤◌, ◌↔◌, ◌⊎◌, inl, inr, Bool, false, IsTrue, List, [], ◌∷◌, ◌++◌, length, get_or, take, sym, ◌∙◌, ap, subst}
 use Rattle.std.specs.List.{All, Contains}
 use Rattle.std.proofs.lemmas.Bool.{false≢true}
 use Rattle.std.proofs.lemmas.List.{take_more, take_all}
-use Rattle.std.proofs.lemmas.List.Elements.{All-contains, All-more, All-same, Contains-push_cases}
+use Rattle.std.proofs.lemmas.List.Elements.{All-more, All-same, Contains-push_cases}
 use Rattle.hir_life.specs.Environment.{Environment, longer_of}
 use Rattle.hir_life.specs.Outlives.{Direct}
 use Rattle.hir_life.specs.declared.maybe_static.MaybeStatic.{MaybeStatic}

@@ -46,12 +46,7 @@ fn all_lifetimes(e: &Explanation) -> &[Lifetime]
 }
 
 /// Whether the list of the explanation is what its kind says.
-fn shows(
-    env: &LifetimeEnv,
-    carried: &[MaybeStatic<Lifetime>],
-    t: Lifetime,
-    e: &Explanation,
-) -> bool
+fn shows(env: &LifetimeEnv, carried: &[MaybeStatic<Lifetime>], t: Lifetime, e: &Explanation) -> bool
     ensures { IsTrue result ↔ Shows env.now carried.now t e.now }
 {
     match e {

@@ -67,11 +67,7 @@ fn place_of_one(search: &Search<'_>, carried: MaybeStatic<Lifetime>) -> Option<u
 }
 
 /// The chain of bounds from the lifetime at this place to the first that was reached.
-fn chain_from(
-    alloc: Global,
-    search: &Search<'_>,
-    place: usize,
-) -> Result<LifetimeList, NoMemory>
+fn chain_from(alloc: Global, search: &Search<'_>, place: usize) -> Result<LifetimeList, NoMemory>
     requires { place < length search.now.reached }
     ensures chain { IfOk result (λ chain. IsChainFrom search.now.environment
         (slice_index search.now.reached place) chain (slice_index search.now.reached 0)) }

@@ -4,8 +4,8 @@ ghost use Rattle.std.specs.Prelude.{◌≡◌, ◌↔◌, ℕ, [], ◌<◌, ◌�
 ghost use Rattle.std.specs.List.{All, Contains};
 
 use crate::reading::longer_than;
-use hir_life::{Lifetime, LifetimeEnv, LifetimeList};
 use bridge_decl::NoMemory;
+use hir_life::{Lifetime, LifetimeEnv, LifetimeList};
 use std::alloc::Global;
 use std::marker::Model;
 
@@ -38,7 +38,12 @@ impl<'env> Model for Search<'env> {
 impl<'env> Search<'env> {
     ghost use Rattle.hir_life.specs.Environment.{IsSound, longer_of};
     ghost use Rattle.hir_explain.specs.inside.Searching.{
-        Grows, IsBoundAt, IsComplete, IsFollowed, LeadsTo, Reaches,
+      Grows,
+      IsBoundAt,
+      IsComplete,
+      IsFollowed,
+      LeadsTo,
+      Reaches,
     };
 
     /// A search that has reached nothing yet. It takes all the memory that it needs.
@@ -139,11 +144,7 @@ impl<'env> Search<'env> {
     }
 
     /// The whole search for the lifetimes that outlive `t`.
-    pub(crate) fn over(
-        alloc: Global,
-        env: &'env LifetimeEnv,
-        t: Lifetime,
-    ) -> Result<Self, NoMemory>
+    pub(crate) fn over(alloc: Global, env: &'env LifetimeEnv, t: Lifetime) -> Result<Self, NoMemory>
         requires { t < env.now.count }
         ensures { IfOk result (λ search. IsComplete env.now t search) }
     {

@@ -1,7 +1,7 @@
 -- A search for the lifetimes that outlive t. The example throughout is `fn f<'a, 'b: 'a, 'c: 'b, 'd>`, where a to d have the numbers
 -- 0 to 3, and the search from a when it is over: it has reached a, b, c.
-use Rattle.std.specs.Prelude.{◌≡◌, ℕ, List, [], ◌∷◌, ◌++◌, ◌+◌, ◌<◌, ◌⊎◌, length, slice_index}
-use Rattle.std.specs.List.{All, Contains}
+use Rattle.std.specs.Prelude.{◌≡◌, ℕ, List, [], ◌∷◌, ◌++◌, ◌<◌, ◌⊎◌, length, slice_index}
+use Rattle.std.specs.List.{Contains}
 use Rattle.hir_life.specs.Environment.{Environment, longer_of}
 use Rattle.hir_life.specs.Outlives.{Direct, Linked}
 

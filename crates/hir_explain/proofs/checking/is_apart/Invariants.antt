@@ -1,4 +1,4 @@
-use Rattle.std.proofs.Common.{◌≡◌, ℕ, ◌<◌, take}
+use Rattle.std.proofs.Common.{ℕ, take}
 use Rattle.std.specs.List.{Contains}
 use Rattle.hir_explain.specs.Explanations.{IsCarried}
 use Rattle.hir_explain.proofs.checking.is_apart.Given as goal

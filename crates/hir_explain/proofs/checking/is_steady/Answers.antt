@@ -1,4 +1,4 @@
-use Rattle.std.proofs.Common.{ℕ, refl, subst, sym}
+use Rattle.std.proofs.Common.{refl, subst, sym}
 use Rattle.std.specs.List.{Contains}
 use Rattle.hir_explain.proofs.Tests.{contains_item, contains_taken, no_from, says_no, steady_more}
 use Rattle.hir_explain.proofs.checking.is_steady.Goals as goal

@@ -1,4 +1,4 @@
-use Rattle.std.proofs.Common.{◌<◌, ap, arith, inl, inr, subst, sym}
+use Rattle.std.proofs.Common.{◌<◌, inl, inr, subst, sym}
 use Rattle.std.specs.List.{Contains}
 use Rattle.hir_life.specs.declared.walks.Direction.TheVariants.{Longer}
 use Rattle.hir_life.proofs.Following.{bound_within}

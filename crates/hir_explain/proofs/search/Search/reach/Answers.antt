@@ -1,4 +1,4 @@
-use Rattle.std.proofs.Common.{ℕ, ◌≡◌, ◌<◌, List, arith, length, refl, rules, subst, sym}
+use Rattle.std.proofs.Common.{◌≡◌, ◌<◌, arith, length, refl, rules, subst, sym}
 use Rattle.std.specs.List.{Contains}
 use Rattle.hir_explain.specs.inside.Fields.{found_of}
 use Rattle.hir_explain.specs.inside.Searching.{IsBoundAt}
