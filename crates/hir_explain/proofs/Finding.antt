@@ -11,7 +11,7 @@ use Rattle.hir_life.specs.Listing.{IsOnceEach}
 use Rattle.hir_life.specs.Outlives.{Direct}
 use Rattle.hir_life.proofs.Distinct.{distinct_below}
 use Rattle.hir_life.proofs.Marking.{apart_more}
-use Rattle.hir_explain.specs.inside.Searching.{Found, IsBoundAt, IsFound, LeadsTo, Reaches}
+use Rattle.hir_explain.specs.inside.Searching.{Found, IsBoundAt, IsFound, ComesFrom, HasReached}
 
 -- a lifetime has a place exactly where it stands there
 abbrev pub Placed : List ℕ → List (Option ℕ) → Type 0
@@ -101,7 +101,7 @@ found_more e order origins l origin found below bound =
                 let same : get_or (origins ++ origin ∷ []) j 0 ≡ get_or origins j 0 =
                 get_or-append origins (origin ∷ []) 0 j (omega (arith, old, found.parallel)) in
                 subst
-                (λ p. LeadsTo (record { environment = e; reached = order ++ l ∷ []; origins = origins ++ origin ∷ [] }) j p)
+                (λ p. ComesFrom (record { environment = e; reached = order ++ l ∷ []; origins = origins ++ origin ∷ [] }) j p)
                 (sym same)
                 (record {
                   earlier = was.earlier;
@@ -118,7 +118,7 @@ found_more e order origins l origin found below bound =
                 let same : get_or (origins ++ origin ∷ []) j 0 ≡ origin =
                 subst (λ x. get_or (origins ++ origin ∷ []) x 0 ≡ origin) (found.parallel ∙ last) (get_or-append_seam origins origin [] 0) in
                 subst
-                (λ p. LeadsTo (record { environment = e; reached = order ++ l ∷ []; origins = origins ++ origin ∷ [] }) j p)
+                (λ p. ComesFrom (record { environment = e; reached = order ++ l ∷ []; origins = origins ++ origin ∷ [] }) j p)
                 (sym same)
                 (record {
                   earlier = omega (arith, to.within, last);
@@ -178,9 +178,9 @@ found_read e order origins after after_origins l origin grown grown_origins foun
 -- a lifetime goes to the end
 pub reaches_new :
     (was f after : Found) (l : ℕ) → was ≡ f → after.environment ≡ was.environment → after.reached ≡ was.reached ++ l ∷ []
-    → Reaches f l after
+    → HasReached f l after
 reaches_new was f after l view same grown =
-    subst (λ x. Reaches x l after) view
+    subst (λ x. HasReached x l after) view
     (record {
       same = same;
       grown = inr grown;

@@ -6,10 +6,10 @@ use Rattle.std.proofs.lemmas.List.Elements.{Contains-append_left}
 use Rattle.std.proofs.lemmas.Bool.{cases_lt}
 use Rattle.hir_life.specs.Environment.{longer_of}
 use Rattle.hir_life.specs.Outlives.{Direct}
-use Rattle.hir_explain.specs.inside.Searching.{Found, Grows, IsFollowed, Reaches}
+use Rattle.hir_explain.specs.inside.Searching.{Found, Grows, IsFollowed, HasReached}
 
 -- what was reached stays reached
-pub reaches_keeps : (f after : Found) (l k : ℕ) → Reaches f l after → Contains f.reached k → Contains after.reached k
+pub reaches_keeps : (f after : Found) (l k : ℕ) → HasReached f l after → Contains f.reached k → Contains after.reached k
 reaches_keeps f after l k reaches h =
     elim reaches.grown [
       | inl same ↦ subst (λ x. Contains x k) (sym same) h
@@ -17,7 +17,7 @@ reaches_keeps f after l k reaches h =
     ]
 
 -- one lifetime more
-pub grows_more : (f mid after : Found) (l : ℕ) → Grows f mid → Reaches mid l after → Grows f after
+pub grows_more : (f mid after : Found) (l : ℕ) → Grows f mid → HasReached mid l after → Grows f after
 grows_more f mid after l grows reaches =
     elim reaches.grown [
       | inl same ↦ record { same = reaches.same ∙ grows.same; more = grows.more; grown = same ∙ grows.grown }

@@ -9,12 +9,12 @@ use Rattle.hir_life.specs.declared.maybe_static.MaybeStatic.{MaybeStatic}
 use Rattle.hir_life.specs.declared.walks.Direction.TheVariants.{Longer}
 use Rattle.hir_life.proofs.Chains.{closed_has_longer}
 use Rattle.hir_life.proofs.Following.{bound_within}
-use Rattle.hir_explain.specs.Explanations.{IsCarried, IsChain, IsListed, Separates}
-use Rattle.hir_explain.specs.inside.Searching.{Found, IsChainFrom, IsComplete}
+use Rattle.hir_explain.specs.Explanations.{IsCarried, IsChainTo, IsListed, Separates}
+use Rattle.hir_explain.specs.inside.Searching.{Found, IsChainFrom, IsExhausted}
 
 -- a chain shows that the leaf is listed
 pub chain_lists :
-    (e : Environment) (carried : List (MaybeStatic ℕ)) (t : ℕ) (chain : List ℕ) → IsChain e carried t chain
+    (e : Environment) (carried : List (MaybeStatic ℕ)) (t : ℕ) (chain : List ℕ) → IsChainTo e carried t chain
     → IsListed e carried t
 chain_lists e carried t [] none = absurd none
 chain_lists e carried t (first ∷ rest) is =
@@ -31,7 +31,7 @@ separates_not e carried t long is listed =
 -- the chain that was read off is one from a carried lifetime to t
 pub chain_read :
     (e : Environment) (carried : List (MaybeStatic ℕ)) (first last t : ℕ) (chain : List ℕ) → IsCarried carried first
-    → last ≡ t → IsChainFrom e first chain last → IsChain e carried t chain
+    → last ≡ t → IsChainFrom e first chain last → IsChainTo e carried t chain
 chain_read e carried first last t [] carries end none = none
 chain_read e carried first last t (l ∷ rest) carries end is = (
   subst (λ x. IsCarried carried x) (sym is.0) carries,
@@ -41,7 +41,7 @@ chain_read e carried first last t (l ∷ rest) carries end is = (
 -- what was reached when the search was over separates, where none of it is carried
 pub reached_separates :
     (e : Environment) (carried : List (MaybeStatic ℕ)) (t : ℕ) (f : Found) (long : List ℕ) → IsSound e → t < e.count
-    → IsComplete e t f → ((l : ℕ) → IsCarried carried l → Contains f.reached l → ⊥)
+    → IsExhausted e t f → ((l : ℕ) → IsCarried carried l → Contains f.reached l → ⊥)
     → ((l : ℕ) → l < e.count → (Contains long l ↔ Contains f.reached l)) → All (λ l. l < e.count) long
     → Separates e carried t long
 reached_separates e carried t f long sound below complete apart same within =

@@ -31,9 +31,9 @@ pub record HasCarried (carried : List (MaybeStatic ℕ)) (long : List ℕ) : Typ
   pub has : Contains long carrier
 
 -- the list begins with a carried lifetime and ends with t, and each of its lifetimes is a direct bound of its successor: b, a
-abbrev pub IsChain : Environment → List (MaybeStatic ℕ) → ℕ → List ℕ → Type 0
-IsChain e carried t [] = ⊥
-IsChain e carried t (first ∷ rest) = IsCarried carried first × Linked (longer_of e) first rest t
+abbrev pub IsChainTo : Environment → List (MaybeStatic ℕ) → ℕ → List ℕ → Type 0
+IsChainTo e carried t [] = ⊥
+IsChainTo e carried t (first ∷ rest) = IsCarried carried first × Linked (longer_of e) first rest t
 
 -- the long lifetimes are steady, t is one of them, and none of them is carried: a, b for a leaf that carries c
 pub record Separates (e : Environment) (carried : List (MaybeStatic ℕ)) (t : ℕ) (long : List ℕ) : Type 0 where
@@ -42,20 +42,20 @@ pub record Separates (e : Environment) (carried : List (MaybeStatic ℕ)) (t : �
   pub apart : (l : ℕ) → IsCarried carried l → Contains long l → ⊥
 
 -- the numbers that stand in an explanation
-abbrev pub numbers : Explanation → List ℕ
-numbers (Chain chain) = chain
-numbers (Separating long) = long
+abbrev pub explained_by : Explanation → List ℕ
+explained_by (Chain chain) = chain
+explained_by (Separating long) = long
 
 -- the list of the explanation is what its kind says
 abbrev pub Shows : Environment → List (MaybeStatic ℕ) → ℕ → Explanation → Type 0
-Shows e carried t (Chain chain) = IsChain e carried t chain
+Shows e carried t (Chain chain) = IsChainTo e carried t chain
 Shows e carried t (Separating long) = Separates e carried t long
 
 -- all numbers are those of lifetimes, and the explanation shows what its kind says
 pub record Proves (e : Environment) (carried : List (MaybeStatic ℕ)) (t : ℕ) (x : Explanation) : Type 0 where
   pub t_within : t < e.count
   pub carried_within : AreBelow e.count carried
-  pub within : All (λ l. l < e.count) (numbers x)
+  pub within : All (λ l. l < e.count) (explained_by x)
   pub shows : Shows e carried t x
 
 -- the explanation says that the leaf is listed

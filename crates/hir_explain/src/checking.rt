@@ -5,7 +5,7 @@ ghost use Rattle.std.specs.List.{Contains};
 ghost use Rattle.std.specs.List.Sorted.{IsNonDecreasing};
 ghost use Rattle.hir_life.specs.Environment.{longer_of};
 ghost use Rattle.hir_life.specs.Outlives.{Direct, Linked};
-ghost use Rattle.hir_explain.specs.Explanations.{IsCarried, IsChain, IsSteady, Proves, Separates, Shows, numbers};
+ghost use Rattle.hir_explain.specs.Explanations.{IsCarried, IsChainTo, IsSteady, Proves, Separates, Shows, explained_by};
 ghost use Rattle.hir_explain.specs.inside.Numbers.{HasNumber};
 
 use crate::explanations::Explanation;
@@ -37,7 +37,7 @@ pub fn check_explanation(
 
 /// The lifetimes that stand in the explanation.
 fn all_lifetimes(e: &Explanation) -> &[Lifetime]
-    ensures { result.now ≡ numbers e.now }
+    ensures { result.now ≡ explained_by e.now }
 {
     match e {
         Explanation::Chain(chain) => chain.as_slice(),
@@ -62,7 +62,7 @@ fn is_chain(
     t: Lifetime,
     chain: &[Lifetime],
 ) -> bool
-    ensures { IsTrue result ↔ IsChain env.now carried.now t chain.now }
+    ensures { IsTrue result ↔ IsChainTo env.now carried.now t chain.now }
 {
     match chain.split_first() {
         Some((first, rest)) => is_carried(carried, *first) && leads_to(env, *first, rest, t),

@@ -28,11 +28,11 @@ impl<'env> Model for Search<'env> {
 
     ghost Value = { Found };
 
-    ghost use Rattle.hir_explain.specs.inside.Fields.{found_of, IsSearch};
+    ghost use Rattle.hir_explain.specs.inside.Fields.{found_of, IsSearched};
 
     ghost view = { found_of };
 
-    ghost invariant = { IsSearch };
+    ghost invariant = { IsSearched };
 }
 
 impl<'env> Search<'env> {
@@ -40,10 +40,10 @@ impl<'env> Search<'env> {
     ghost use Rattle.hir_explain.specs.inside.Searching.{
       Grows,
       IsBoundAt,
-      IsComplete,
+      IsExhausted,
       IsFollowed,
-      LeadsTo,
-      Reaches,
+      ComesFrom,
+      HasReached,
     };
 
     /// A search that has reached nothing yet. It takes all the memory that it needs.
@@ -81,7 +81,7 @@ impl<'env> Search<'env> {
     pub(crate) fn origin_of(&self, place: usize) -> usize
         requires later { 0 < place }
         requires within { place < length self.now.reached }
-        ensures { LeadsTo self.now place result }
+        ensures { ComesFrom self.now place result }
     {
         self.origins[place]
     }
@@ -100,7 +100,7 @@ impl<'env> Search<'env> {
     fn reach(&mut self, lifetime: Lifetime, origin: usize)
         requires within { lifetime < self.old.environment.count }
         requires bound { 0 < length self.old.reached → IsBoundAt self.old lifetime origin }
-        ensures { Reaches self.old lifetime self.new }
+        ensures { HasReached self.old lifetime self.new }
     {
         if self.place_of(lifetime).is_none() {
             self.places[lifetime.index()] = Some(self.reached.len());
@@ -146,7 +146,7 @@ impl<'env> Search<'env> {
     /// The whole search for the lifetimes that outlive `t`.
     pub(crate) fn over(alloc: Global, env: &'env LifetimeEnv, t: Lifetime) -> Result<Self, NoMemory>
         requires { t < env.now.count }
-        ensures { IfOk result (λ search. IsComplete env.now t search) }
+        ensures { IfOk result (λ search. IsExhausted env.now t search) }
     {
         let mut search = Search::new(alloc, env)?;
         search.reach(t, 0);

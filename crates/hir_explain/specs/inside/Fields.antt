@@ -9,7 +9,7 @@ found_of a = record { environment = a.env.now; reached = a.reached.items; origin
 
 -- what is true of the fields between two calls: there is room for all lifetimes, and a lifetime has a place exactly where it
 -- stands there among those that were reached
-pub record IsSearch (a : Inside) : Type 0 where
+pub record IsSearched (a : Inside) : Type 0 where
   pub room : a.env.now.count ≤ vec_capacity a.reached
   pub origins_room : a.env.now.count ≤ vec_capacity a.origins
   pub each : length a.places.items ≡ a.env.now.count

@@ -18,18 +18,18 @@ pub record IsBoundAt (f : Found) (l place : ℕ) : Type 0 where
   pub direct : Direct (longer_of f.environment) l (slice_index f.reached place)
 
 -- the lifetime at place j is declared to outlive the one at this earlier place: that at 2 the one at 1
-pub record LeadsTo (f : Found) (j place : ℕ) : Type 0 where
+pub record ComesFrom (f : Found) (j place : ℕ) : Type 0 where
   pub earlier : place < j
   pub direct : Direct (longer_of f.environment) (slice_index f.reached j) (slice_index f.reached place)
 
 -- each lifetime but the first leads to the one from which it was reached, and all are the environment's
 pub record IsFound (f : Found) : Type 0 where
   pub parallel : length f.origins ≡ length f.reached
-  pub leads : (j : ℕ) → 0 < j → j < length f.reached → LeadsTo f j (slice_index f.origins j)
+  pub leads : (j : ℕ) → 0 < j → j < length f.reached → ComesFrom f j (slice_index f.origins j)
   pub within : (k : ℕ) → Contains f.reached k → k < f.environment.count
 
 -- l is reached: it goes to the end, unless it was reached before
-pub record Reaches (f : Found) (l : ℕ) (after : Found) : Type 0 where
+pub record HasReached (f : Found) (l : ℕ) (after : Found) : Type 0 where
   pub same : after.environment ≡ f.environment
   pub grown : (after.reached ≡ f.reached) ⊎ (after.reached ≡ f.reached ++ l ∷ [])
   pub has : Contains after.reached l
@@ -45,7 +45,7 @@ abbrev pub IsFollowed : Found → ℕ → Type 0
 IsFollowed f place = (l : ℕ) → Direct (longer_of f.environment) l (slice_index f.reached place) → Contains f.reached l
 
 -- the search from t is over: t is the first that was reached, and with each lifetime those that are declared to outlive it were
-pub record IsComplete (e : Environment) (t : ℕ) (f : Found) : Type 0 where
+pub record IsExhausted (e : Environment) (t : ℕ) (f : Found) : Type 0 where
   pub over : f.environment ≡ e
   pub some : 0 < length f.reached
   pub first : slice_index f.reached 0 ≡ t
