@@ -1,0 +1,3 @@
+pub mod Anywhere
+pub mod Deciding
+pub mod Telling

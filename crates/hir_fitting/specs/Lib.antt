@@ -1,0 +1,5 @@
+pub mod Census
+pub mod Fitting
+pub mod Parts
+pub mod Answering
+pub mod inside
