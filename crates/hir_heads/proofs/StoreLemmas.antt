@@ -1,0 +1,12 @@
+-- What a store holds after more is told.
+use Rattle.std.proofs.Common.{◌≡◌, List, ◌++◌, map, ap, ◌∙◌, append_assoc}
+use Rattle.hir_reports.specs.Store.{Held, Keeps, added, told_at}
+use Rattle.hir_reports.specs.declared.report.LoweringError.{LoweringError}
+
+-- what was held is still the front
+pub added_keeps : (earlier held : Held) (es : List LoweringError) → Keeps earlier held → Keeps earlier (added held es)
+added_keeps earlier held es keeps = record {
+  more = keeps.more ++ map (told_at held.place) es;
+  reports = ap (λ rs. rs ++ map (told_at held.place) es) keeps.reports ∙ append_assoc earlier.reports keeps.more (map (told_at held.place) es);
+  place = keeps.place;
+}
