@@ -46,10 +46,15 @@ fn all_lifetimes(e: &Explanation) -> &[Lifetime]
 }
 
 /// Whether the list of the explanation is what its kind says.
-fn shows(env: &LifetimeEnv, carried: &[MaybeStatic<Lifetime>], t: Lifetime, e: &Explanation) -> bool
-    ensures { IsTrue result ↔ Shows env.now carried.now t e.now }
+fn shows(
+    env: &LifetimeEnv,
+    carried: &[MaybeStatic<Lifetime>],
+    t: Lifetime,
+    explanation: &Explanation,
+) -> bool
+    ensures { IsTrue result ↔ Shows env.now carried.now t explanation.now }
 {
-    match e {
+    match explanation {
         Explanation::Chain(chain) => is_chain(env, carried, t, chain.as_slice()),
         Explanation::Separating(long) => separates(env, carried, t, long.as_slice()),
     }

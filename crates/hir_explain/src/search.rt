@@ -144,12 +144,16 @@ impl<'env> Search<'env> {
     }
 
     /// The whole search for the lifetimes that outlive `t`.
-    pub(crate) fn over(alloc: Global, env: &'env LifetimeEnv, t: Lifetime) -> Result<Self, NoMemory>
-        requires { t < env.now.count }
-        ensures { IfOk result (λ search. IsExhausted env.now t search) }
+    pub(crate) fn over(
+        alloc: Global,
+        env: &'env LifetimeEnv,
+        first: Lifetime,
+    ) -> Result<Self, NoMemory>
+        requires { first < env.now.count }
+        ensures { IfOk result (λ search. IsExhausted env.now first search) }
     {
         let mut search = Search::new(alloc, env)?;
-        search.reach(t, 0);
+        search.reach(first, 0);
         search.follow_all();
         Ok(search)
     }
