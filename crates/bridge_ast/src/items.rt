@@ -1,6 +1,6 @@
 //! The items and aliases of a module, by their names and the lifetimes in them.
 
-ghost use Rattle.std.specs.Prelude.{◌≡◌, ℕ, List, [], ◌∷◌, ◌++◌, map, None, OnOk, IfOk};
+ghost use Rattle.std.specs.Prelude.{◌≡◌, List, [], ◌∷◌, ◌++◌, map, None, OnOk, IfOk};
 ghost use Rattle.bridge_decl.specs.declared.modules.Item.{Item};
 ghost use Rattle.bridge_ast.specs.declared.fault.EnvPart.TheVariants as part;
 ghost use Rattle.bridge_ast.specs.Each.{each};
@@ -128,8 +128,8 @@ fn test_item(
     item: &Item,
 ) -> Result<(), EnvFault>
     ensures told { (before : List Named) → HasMeanings names.old before
-        → Tells result (repeats_name EnvFaultKind.DuplicateItem «module» before (item_name item.now)
-        (part.Item number) ++ (lifetime_faults «module» number None (nodes_of item.now)
+        → Tells result (repeats_name EnvFaultKind.DuplicateItem «module» before
+        (item_name item.now) (part.Item number) ++ (lifetime_faults «module» number None (nodes_of item.now)
         ++ each (method_faults «module» number) (method_nodes_of item.now))) }
     ensures kept { (before : List Named) → HasMeanings names.old before
         → OnOk result
@@ -149,7 +149,8 @@ fn test_items(
     module: usize,
     items: &[Item],
 ) -> Result<(), EnvFault>
-    ensures told { HasMeanings names.old [] → Tells result (each (item_faults «module») items.now) }
+    ensures told { HasMeanings names.old []
+        → Tells result (each (item_faults «module») items.now) }
     ensures kept { HasMeanings names.old []
         → OnOk result (HasMeanings names.new (items_named items.now)) }
 {

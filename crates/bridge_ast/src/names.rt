@@ -1,8 +1,8 @@
 //! Names by what they stand for, so that no list of names is searched.
 
-ghost use Rattle.std.specs.Prelude.{◌≡◌, ℕ, List, [], ◌∷◌, ◌++◌, OnOk, IfOk, MatchOption};
+ghost use Rattle.std.specs.Prelude.{List, [], ◌∷◌, ◌++◌, OnOk};
 ghost use Rattle.bridge_ast.specs.EnvFaults.{Named, Tells, repeats_name};
-ghost use Rattle.bridge_text.specs.NameIndex.{HasMeanings, meaning_of};
+ghost use Rattle.bridge_text.specs.NameIndex.{HasMeanings};
 
 use crate::fault::{EnvFault, EnvFaultKind, EnvPart, EnvPlace};
 use bridge_decl::{NameIndex, Text, take_name};

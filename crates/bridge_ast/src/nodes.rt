@@ -1,6 +1,6 @@
 //! The lifetimes that a declaration has of its own, by their names and bounds.
 
-ghost use Rattle.std.specs.Prelude.{◌≡◌, ℕ, List, [], ◌∷◌, ◌++◌, ◌<◌, length, OnOk};
+ghost use Rattle.std.specs.Prelude.{◌≡◌, List, [], ◌∷◌, ◌++◌, ◌<◌, length, OnOk};
 ghost use Rattle.bridge_decl.specs.declared.lifetimes.LifetimeNode.{LifetimeNode};
 ghost use Rattle.bridge_ast.specs.declared.fault.EnvPart.TheVariants as part;
 ghost use Rattle.bridge_ast.specs.inside.BoundLists.{HasBounds};

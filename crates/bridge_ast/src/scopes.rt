@@ -1,7 +1,7 @@
 //! Modules by the names in them, so that no list of modules is searched.
 
-ghost use Rattle.std.specs.Prelude.{◌≡◌, ℕ, List, [], ◌∷◌, ◌++◌, ◌<◌, length, slice_get, option_map, None, Some, IfOk, IfSome};
-ghost use Rattle.std.specs.Prelude.{OnOk, MatchOption};
+ghost use Rattle.std.specs.Prelude.{◌≡◌, ℕ, List, [], ◌∷◌, ◌++◌, ◌<◌, length, slice_get, option_map, None, Some, IfOk};
+ghost use Rattle.std.specs.Prelude.{OnOk};
 ghost use Rattle.std.specs.Option.{ForSome};
 ghost use Rattle.bridge_decl.specs.declared.modules.Module.{Module};
 ghost use Rattle.bridge_ast.specs.declared.fault.EnvPart.TheVariants as part;
@@ -32,7 +32,8 @@ pub struct Scope {
 /// The number of the submodule of that name in the module of a number.
 pub fn submodule_of(scopes: &[Scope], number: usize, name: &Text) -> Option<usize>
     ensures { (modules : List Module) (m : Module) → Knows scopes.now modules
-        → slice_get modules number ≡ Some m → result ≡ module_at modules (m.path ++ name.now ∷ []) }
+        → slice_get modules number ≡ Some m
+        → result ≡ module_at modules (m.path ++ name.now ∷ []) }
 {
     at(scopes, number)?.submodules.get(name).copied()
 }

@@ -119,11 +119,16 @@ fn put_joined_paths<K: Sink>(sink: &mut K, out: &mut Printer, method: &Method, p
     }
 }
 
-fn put_joined_edges<K: Sink>(sink: &mut K, out: &mut Printer, method: &Method, edges: &[ReportEdge])
+fn put_joined_edges<K: Sink>(
+    sink: &mut K,
+    out: &mut Printer,
+    method: &Method,
+    shown_edges: &[ReportEdge],
+)
     ensures { Prints (K.state sink.old) out.old (K.state sink.new) out.new
-        (join_by (edge_text method.now) (codes ", ") edges.now) }
+        (join_by (edge_text method.now) (codes ", ") shown_edges.now) }
 {
-    for (place, edge) in edges.iter().enumerate() {
+    for (place, edge) in shown_edges.iter().enumerate() {
         put_edge_at(sink, out, method, place, edge);
     }
 }

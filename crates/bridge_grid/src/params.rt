@@ -1,6 +1,6 @@
 //! What is wrong in parameters.
 
-ghost use Rattle.std.specs.Prelude.{◌≡◌, ◌++◌, IfOk};
+ghost use Rattle.std.specs.Prelude.{◌≡◌, IfOk};
 ghost use Rattle.std.specs.List.{flat_map};
 ghost use Rattle.bridge_grid.specs.Params.{callback_param_faults, in_param_faults, param_faults, reference_faults};
 

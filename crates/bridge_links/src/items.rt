@@ -1,9 +1,8 @@
 //! Lines of links of items and modules.
 
-ghost use Rattle.std.specs.Prelude.{◌≡◌, ◌++◌, OnOk, IfOk, None, codes, decimal};
+ghost use Rattle.std.specs.Prelude.{◌≡◌, OnOk, None};
 ghost use Rattle.bridge_decl.specs.Names.{item_name};
-ghost use Rattle.hir_docs.specs.Urls.{BaseUrls};
-ghost use Rattle.bridge_links.specs.LinkLines.{docs_links, inner_links, item_links, module_links, own_docs, printed_place, PlacedLink, with_links};
+ghost use Rattle.bridge_links.specs.LinkLines.{inner_links, item_links, module_links, own_docs, with_links};
 
 use crate::lines::LinkLines;
 use bridge_decl::{Docs, Item, Items, Module, NoMemory, Text};

@@ -1,6 +1,6 @@
 //! The whole input in memory, up to a limit.
 
-ghost use Rattle.std.specs.Prelude.{◌≡◌, ◌+◌, ◌^◌, ◌≤◌, ◌<◌, [], ℕ, Some, IfOk, IfErr, IfSome, OnOk, length, take, drop, vec_len};
+ghost use Rattle.std.specs.Prelude.{◌≡◌, ◌+◌, ◌^◌, ◌≤◌, ◌<◌, [], ℕ, Some, IfOk, IfErr, IfSome, OnOk, take, drop, vec_len};
 ghost use Rattle.bridge_outside.specs.Outside.{Reads, Rose, left_after};
 ghost use Rattle.bridge_outside.specs.Whole.{HasReadCause, IsReadAnswer};
 

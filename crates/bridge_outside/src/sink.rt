@@ -1,6 +1,6 @@
 //! Where the output goes: bytes that are taken in pieces, and writes that may fail.
 
-ghost use Rattle.std.specs.Prelude.{◌≡◌, ◌+◌, ◌-◌, ◌^◌, ◌≤◌, ◌<◌, ◌↔◌, ℕ, List, [], Option, Some, None, IfOk, IfSome, IsErrOf, Contains, take, min, length};
+ghost use Rattle.std.specs.Prelude.{◌≡◌, ◌+◌, ◌-◌, ◌^◌, ◌≤◌, ◌<◌, ◌↔◌, [], Option, Some, None, IfOk, IfSome, IsErrOf, Contains, take, min, length};
 ghost use Rattle.bridge_outside.specs.Outside.{SinkState, Writes};
 
 use std::alloc::{AllocError, Global};

@@ -1,6 +1,6 @@
 //! Where the input comes from: bytes that are read in pieces, and reads that may fail.
 
-ghost use Rattle.std.specs.Prelude.{◌≡◌, ◌+◌, ◌-◌, ◌^◌, ◌≤◌, ◌↔◌, ◌++◌, ℕ, List, Option, Some, None, IfOk, IsErr, IsOk, Contains, drop, take, min, length};
+ghost use Rattle.std.specs.Prelude.{◌≡◌, ◌+◌, ◌-◌, ◌^◌, ◌≤◌, ◌↔◌, ◌++◌, IfOk, IsErr, IsOk, Contains, drop, take, min, length};
 ghost use Rattle.bridge_outside.specs.Outside.{Reads, SourceState};
 
 use std::alloc::{AllocError, Global};

@@ -1,6 +1,6 @@
 //! Objects: each member gets the number of its key in the form, and the members are then taken in the order of the form.
 
-ghost use Rattle.std.specs.Prelude.{◌≡◌, ℕ, ◌<◌, [], ◌∷◌, ◌++◌, false, true, drop, length, List, Some, IfOk, OnOk, option_map, string_cmp};
+ghost use Rattle.std.specs.Prelude.{◌≡◌, ℕ, ◌<◌, [], ◌∷◌, ◌++◌, false, true, drop, length, List, Some, OnOk, option_map, string_cmp};
 ghost use Rattle.std.specs.BTreeMap.{keys};
 ghost use Rattle.std.specs.List.Sorted.{IsStrictlySortedBy};
 ghost use Rattle.serde_json.specs.Data.{Data};

@@ -1,6 +1,6 @@
 //! The whole input: declarations, a backend, a configuration, and where documentation lies.
 
-ghost use Rattle.std.specs.Prelude.{◌≡◌, [], ℕ, List, Err, IfErr, IfOk, Some, length, slice_get};
+ghost use Rattle.std.specs.Prelude.{◌≡◌, ℕ, List, Err, IfErr, IfOk, Some, length, slice_get};
 ghost use Rattle.std.specs.List.{All};
 ghost use Rattle.serde_json.specs.Data.{Data};
 ghost use Rattle.serde_json.specs.View.{view};
@@ -198,8 +198,8 @@ pub fn read_input(alloc: Global, bytes: &[u8]) -> Result<Input, InputFault>
     ensures told { IfErr result (λ fault. IsToldOf bytes.now fault) }
     // Bytes are refused only where they spell no input, and those that spell one have no fault.
     ensures refused { IfErr result (λ fault. Refuses bytes.now fault) }
-    ensures faultless { (value : Data) (input : Given) (fault : Wrong) → SpellsInput bytes.now input
-        → IsJsonOf bytes.now value → ¬ IsFirstOf value fault }
+    ensures faultless { (value : Data) (input : Given) (fault : Wrong)
+        → SpellsInput bytes.now input → IsJsonOf bytes.now value → ¬ IsFirstOf value fault }
     // Each module that a value declares has its pointer, which leads to the object that spells it.
     ensures counted { (value : Data) (declared : Spelled) → whole.Spells value declared
         → length declared.modules ≡ length (module_pointers value) }

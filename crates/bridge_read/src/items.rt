@@ -1,6 +1,5 @@
 //! Items, whose keys depend on their kind.
 
-ghost use Rattle.std.specs.Prelude.{◌≡◌};
 ghost use Rattle.serde_json.specs.View.{view};
 ghost use Rattle.bridge_read.specs.Form.{object_with, one_word};
 ghost use Rattle.bridge_read.specs.inside.Given.{Gives, needed};

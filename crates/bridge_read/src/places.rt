@@ -1,6 +1,6 @@
 //! Where the parts of declarations stand in the JSON value that spells them.
 
-ghost use Rattle.std.specs.Prelude.{◌≡◌, ◌∷◌, ◌++◌, [], List, IfOk, slice_index_or};
+ghost use Rattle.std.specs.Prelude.{◌≡◌, ◌∷◌, [], IfOk, slice_index_or};
 ghost use Rattle.serde_json.specs.View.{items_view};
 ghost use Rattle.serde_json.specs.View.{view};
 ghost use Rattle.bridge_read.specs.inside.Places.{Searches};
@@ -113,7 +113,8 @@ fn module_pointer(alloc: Global, value: &Value, number: usize) -> Result<Pointer
 
 /// From an item or one of its methods to the lifetime of a number.
 fn lifetime_pointer(alloc: Global, method: Option<usize>, node: usize) -> Result<Pointer, NoMemory>
-    ensures { IfOk result (λ pointer. pointer ≡ method_steps method (entry Key.Lifetimes node [])) }
+    ensures { IfOk result (λ pointer.
+        pointer ≡ method_steps method (entry Key.Lifetimes node [])) }
 {
     let lifetime = entry(alloc, Key::Lifetimes, node, Pointer::here(alloc))?;
     match method {
@@ -139,7 +140,8 @@ fn part_pointer(alloc: Global, part: EnvPart) -> Result<Pointer, NoMemory>
 
 /// The pointer of a place of the modules that the value spells.
 pub fn place_pointer(alloc: Global, value: &Value, at: EnvPlace) -> Result<Pointer, NoMemory>
-    ensures { IfOk result (λ pointer. pointer ≡ place_steps (module_pointers (view value.now)) at) }
+    ensures { IfOk result (λ pointer.
+        pointer ≡ place_steps (module_pointers (view value.now)) at) }
 {
     let inner = part_pointer(alloc, at.part)?;
     module_pointer(alloc, value, at.module)?.followed_by(inner)

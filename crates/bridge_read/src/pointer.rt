@@ -85,7 +85,8 @@ fn put_char(text: &mut String, c: char) -> Result<(), NoMemory>
 
 /// Adds a name as a pointer writes it.
 fn put_name(text: &mut String, name: &str) -> Result<(), NoMemory>
-    ensures { OnOk result (string_bytes text.new ≡ string_bytes text.old ++ escaped_text name.now) }
+    ensures { OnOk result
+        (string_bytes text.new ≡ string_bytes text.old ++ escaped_text name.now) }
 {
     for c in name.chars() {
         put_char(text, c)?;

@@ -1,6 +1,6 @@
 //! The words of the form, each of which stands for one value.
 
-ghost use Rattle.std.specs.Prelude.{◌≡◌, [], ◌∷◌};
+ghost use Rattle.std.specs.Prelude.{◌≡◌};
 ghost use Rattle.serde_json.specs.View.{view};
 ghost use Rattle.bridge_read.specs.Form.{find_word, one_word};
 ghost use Rattle.bridge_read.specs.inside.Given.{Gives};

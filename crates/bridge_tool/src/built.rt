@@ -1,6 +1,6 @@
 //! Which declarations are checked so far.
 
-ghost use Rattle.std.specs.Prelude.{◌≡◌, ◌↔◌, [], IsTrue, All};
+ghost use Rattle.std.specs.Prelude.{◌≡◌, ◌↔◌, IsTrue, All};
 ghost use Rattle.bridge_decl.specs.declared.types.TypeName.{out-TypeName};
 ghost use Rattle.bridge_read.specs.forms.Attrs.{no_attrs};
 ghost use Rattle.bridge_read.specs.forms.Docs.{no_docs};

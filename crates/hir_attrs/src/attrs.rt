@@ -1,6 +1,6 @@
 //! The set of marks of a declaration.
 
-ghost use Rattle.std.specs.Prelude.{◌≡◌, IfOk, Some, None};
+ghost use Rattle.std.specs.Prelude.{◌≡◌, IfOk, None};
 ghost use Rattle.hir_attrs.specs.Attrs.{empty_attrs, inherited, kept_disable, kept_namespace};
 
 use crate::includes::{IncludeLocation, IncludeSource};

@@ -1,6 +1,6 @@
 //! The marks of declarations, read one by one.
 
-ghost use Rattle.std.specs.Prelude.{◌≡◌, ◌&&◌, IfOk, Some, map, option_map};
+ghost use Rattle.std.specs.Prelude.{◌≡◌, ◌&&◌, IfOk, Some, option_map};
 ghost use Rattle.std.specs.Option.{option_copied};
 ghost use Rattle.hir_attrs.specs.Includes.{include_of};
 ghost use Rattle.hir_attrs.specs.Marks.{mark_form, mark_named};

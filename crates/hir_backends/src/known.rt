@@ -4,7 +4,6 @@
 //! the order in which it is given, which is all that contracts see, and sorted, where a text is found by halving.
 
 ghost use Rattle.std.specs.Prelude.{◌≡◌, IfOk, IsTrue, ◌↔◌, []};
-ghost use Rattle.std.specs.List.{list_any};
 ghost use Rattle.std.specs.Ordering.{nat_cmp};
 ghost use Rattle.std.specs.Cmp.Lexicographic.{slice_cmp};
 ghost use Rattle.hir_backends.specs.Known.{is_named, is_paired};

@@ -1,7 +1,6 @@
 //! Links to the documentation of Rust items.
 
 ghost use Rattle.std.specs.Prelude.{◌≡◌, ◌++◌, ◌↔◌, IfOk, OnOk, IsErrOf, None, Some, false, length, map, string_bytes};
-ghost use Rattle.std.specs.Option.{option_copied};
 ghost use Rattle.hir_docs.specs.Links.{layout, ends_with_slash, slashed, chosen_base, rooted, root_of, folder, folders, anchored, page_text, is_short, within_root, link_text};
 ghost use Rattle.hir_docs.specs.inside.Shown.{shown};
 

@@ -1,7 +1,7 @@
 //! Lists of lifetimes, lowered one after another. Room is made for a whole list before its first lifetime is lowered, so that
 //! nothing was lowered where there is no memory.
 
-ghost use Rattle.std.specs.Prelude.{◌≡◌, ◌≤◌, ◌+◌, [], List, Ok, Err, IfOk, IfErr, OnOk, IsErrOf, length, map, replicate, ◌++◌};
+ghost use Rattle.std.specs.Prelude.{◌≡◌, ◌≤◌, ◌+◌, List, Ok, Err, IfOk, IfErr, OnOk, IsErrOf, length, map, replicate, ◌++◌};
 ghost use Rattle.bridge_decl.specs.declared.lifetimes.Lifetime.{Lifetime as Used};
 ghost use Rattle.bridge_decl.specs.declared.lifetimes.Lifetime.TheVariants as used_as;
 ghost use Rattle.hir_elide.specs.Generics.{IsUnlessNoMemory, all_or_fault, filled};
@@ -17,11 +17,14 @@ use smallvec::SmallVec;
 use std::alloc::Global;
 
 /// A list with room for so many lifetimes.
-pub fn room_for(alloc: Global, count: usize) -> Result<SmallVec<MaybeStatic<Lifetime>, 2>, NoMemory>
-    ensures { IfOk result (λ room. IsRoomFor count room) }
+pub fn room_for(
+    alloc: Global,
+    places: usize,
+) -> Result<SmallVec<MaybeStatic<Lifetime>, 2>, NoMemory>
+    ensures { IfOk result (λ room. IsRoomFor places room) }
 {
     let mut room = SmallVec::new(alloc);
-    room.reserve(count)?;
+    room.reserve(places)?;
     Ok(room)
 }
 

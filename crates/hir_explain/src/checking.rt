@@ -4,7 +4,7 @@ ghost use Rattle.std.specs.Prelude.{◌≡◌, ◌↔◌, ℕ, IsTrue};
 ghost use Rattle.std.specs.List.{Contains};
 ghost use Rattle.std.specs.List.Sorted.{IsNonDecreasing};
 ghost use Rattle.hir_life.specs.Environment.{longer_of};
-ghost use Rattle.hir_life.specs.Outlives.{Direct, Linked};
+ghost use Rattle.hir_life.specs.Outlives.{Linked};
 ghost use Rattle.hir_explain.specs.Explanations.{IsCarried, IsChainTo, IsSteady, Proves, Separates, Shows, explained_by};
 ghost use Rattle.hir_explain.specs.inside.Numbers.{HasNumber};
 

@@ -1,7 +1,7 @@
 //! The search for the lifetimes that outlive one, with a note of where each was reached from.
 
 ghost use Rattle.std.specs.Prelude.{◌≡◌, ◌↔◌, ℕ, [], ◌<◌, ◌≤◌, length, slice_index, IsTrue, IfOk, MatchOption};
-ghost use Rattle.std.specs.List.{All, Contains};
+ghost use Rattle.std.specs.List.{Contains};
 
 use crate::reading::longer_than;
 use bridge_decl::NoMemory;

@@ -1,6 +1,6 @@
 //! Types that are told with all that is wrong, or lowered.
 
-ghost use Rattle.std.specs.Prelude.{◌≡◌, [], IfOk, OnErr, OnOk};
+ghost use Rattle.std.specs.Prelude.{◌≡◌, IfOk, OnErr, OnOk};
 ghost use Rattle.bridge_grid.specs.Faults.{type_faults};
 ghost use Rattle.bridge_grid.specs.Items.{receiver_faults};
 ghost use Rattle.bridge_grid.specs.Params.{callback_param_faults, param_faults};

@@ -1,6 +1,5 @@
 //! What parameters and their callbacks are lowered to.
 
-ghost use Rattle.std.specs.Prelude.{◌≡◌};
 ghost use Rattle.hir_form.specs.inside.Makes.{Makes};
 ghost use Rattle.hir_form.specs.ParamForms.{callback_form, callback_param_form, callback_params_form, callback_return_form, param_form};
 

@@ -72,7 +72,8 @@ impl LifetimeEnv {
     pub fn add_anonymous(&mut self) -> Lifetime
         requires { self.old.count < usize.MAX }
         ensures number { result ≡ self.old.count }
-        ensures added { self.new ≡ record { bounds = self.old.bounds; count = self.old.count + 1 } }
+        ensures added { self.new
+            ≡ record { bounds = self.old.bounds; count = self.old.count + 1 } }
     {
         let number = self.num_lifetimes();
         self.count = number + 1;

@@ -1,7 +1,6 @@
 //! The lifetimes of a definition beside those where it is used.
 
 ghost use Rattle.std.specs.Prelude.{◌≡◌, ◌<◌, length, slice_get, Some};
-ghost use Rattle.hir_life.specs.Environment.{IsSound};
 ghost use Rattle.hir_links.specs.Links.{Link, all_pairs, pairs};
 
 use crate::pairs::{AllPairsIter, DefOnlyIter};

@@ -1,6 +1,6 @@
 //! What types, paths and returns name.
 
-ghost use Rattle.std.specs.Prelude.{◌≡◌, ◌++◌, ◌∷◌, [], OnOk, option_copied};
+ghost use Rattle.std.specs.Prelude.{◌≡◌, ◌++◌, ◌∷◌, [], OnOk};
 ghost use Rattle.hir_types.specs.Returns.{type_in};
 ghost use Rattle.hir_mentions.specs.Mentions.{borrow_mentions, enum_mention, opaque_mention, owner_mentions, where_any};
 ghost use Rattle.hir_mentions.specs.Seen.{all_mentioned};

@@ -6,7 +6,7 @@ ghost use Rattle.hir_number.specs.Breaches.{Anything, At, Equal, Nothing, TooMan
 ghost use Rattle.bridge_text.specs.NameIndex.{Indexes};
 ghost use Rattle.hir_elide.specs.Numbering.{most};
 ghost use Rattle.hir_number.specs.Naming.{IsNaming, Naming};
-ghost use Rattle.hir_number.specs.Signatures.{field_uses, function_uses, method_uses, output_uses, param_uses, receiver_borrow, receiver_uses, trait_borrow, trait_receiver_uses, without_writer};
+ghost use Rattle.hir_number.specs.Signatures.{field_uses, function_uses, method_uses, output_uses, param_uses, receiver_borrow, receiver_uses, trait_borrow, trait_receiver_uses};
 ghost use Rattle.hir_number.specs.Uses.{borrow_uses, type_use, type_uses};
 ghost use Rattle.hir_number.specs.inside.Scopes.{KnowsScope, demand};
 

@@ -1,6 +1,6 @@
 //! NumberLists of the lifetimes of a definition's fields.
 
-ghost use Rattle.std.specs.Prelude.{◌≡◌, [], ⊤, ◌<◌, length, IfErr, IfOk};
+ghost use Rattle.std.specs.Prelude.{◌≡◌, [], ◌<◌, length, IfErr, IfOk};
 ghost use Rattle.bridge_decl.specs.Lifetimes.{IsSoundEnvironment};
 ghost use Rattle.hir_elide.specs.Occurrences.{Signature};
 ghost use Rattle.hir_elide.specs.Phases.{Defining};

@@ -1,10 +1,9 @@
 //! NumberLists of single lifetimes and of the generics of paths.
 
-ghost use Rattle.std.specs.Prelude.{◌≡◌, ◌<◌, length};
+ghost use Rattle.std.specs.Prelude.{◌<◌, length};
 ghost use Rattle.hir_elide.specs.Occurrences.{Signature};
-ghost use Rattle.hir_number.specs.Naming.{IsNaming, Naming, trait_found};
-ghost use Rattle.hir_number.specs.Uses.{Path};
-ghost use Rattle.hir_number.specs.inside.Parts.{definition_seen, generic_count, list_run};
+ghost use Rattle.hir_number.specs.Naming.{IsNaming, Naming};
+ghost use Rattle.hir_number.specs.inside.Parts.{definition_seen, list_run};
 ghost use Rattle.hir_number.specs.inside.Threads.{Meets, borrow_run, generics_run, lifetime_run, optional_run, path_run, trait_run};
 
 use crate::fault::NumberFault;

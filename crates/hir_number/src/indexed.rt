@@ -1,6 +1,6 @@
 //! The lifetimes of a definition by an index of its names, so that none is searched for however many fields there are.
 
-ghost use Rattle.std.specs.Prelude.{◌≡◌, IfOk};
+ghost use Rattle.std.specs.Prelude.{IfOk};
 ghost use Rattle.hir_elide.specs.Phases.{Defining};
 ghost use Rattle.hir_elide.specs.Signature.{begun};
 
@@ -25,7 +25,8 @@ impl StandsFor for IndexedDefinition {
 impl IndexedDefinition {
     /// The definition that declares these lifetimes.
     pub fn new(alloc: Global, env: &LifetimeEnv) -> Result<IndexedDefinition, NoMemory>
-        ensures { IfOk result (λ it. ⟦<IndexedDefinition as StandsFor>⟧.stands it (begun env.now)) }
+        ensures { IfOk result (λ it.
+            ⟦<IndexedDefinition as StandsFor>⟧.stands it (begun env.now)) }
     {
         Ok(IndexedDefinition {
             names: index_lifetimes(alloc, env)?,

@@ -72,12 +72,16 @@ fn definition_of<'e>(found: CustomType<'e>) -> (Definition<'e>, Kind)
 }
 
 /// The type that a path names.
-pub fn find_type<'e>(env: &'e Env, number: usize, path: &PathType) -> Option<(Definition<'e>, Kind)>
+pub fn find_type<'e>(
+    env: &'e Env,
+    number: usize,
+    type_path: &PathType,
+) -> Option<(Definition<'e>, Kind)>
     requires { number < length env.now }
     ensures { (names : Naming) → IsNaming env.now number names
-        → option_map named_seen result ≡ type_found (names.type_at path.now.segments) }
+        → option_map named_seen result ≡ type_found (names.type_at type_path.now.segments) }
 {
-    match resolved(env, number, path) {
+    match resolved(env, number, type_path) {
         Some(found) => Some(definition_of(found)),
         None => None,
     }

@@ -1,6 +1,6 @@
 //! Where paths and lifetimes are tested, and what is wrong with single ones.
 
-ghost use Rattle.std.specs.Prelude.{◌≡◌, ◌<◌, ◌++◌, [], ◌∷◌, ℕ, List, length, map, option_map, is_some, OnOk};
+ghost use Rattle.std.specs.Prelude.{◌≡◌, ◌<◌, ◌++◌, ℕ, List, length, map, option_map, is_some, OnOk};
 ghost use Rattle.std.specs.List.{flat_map};
 ghost use Rattle.bridge_text.specs.NameIndex.{Indexes, number_of};
 ghost use Rattle.hir_number.specs.Breaches.{arity_breaches, breaches_of, broken, is_at, own_breaches, self_breaches, unknown, unless_own, use_breaches};

@@ -1,11 +1,10 @@
 //! NumberLists of the lifetimes of methods and functions.
 
-ghost use Rattle.std.specs.Prelude.{◌≡◌, [], ⊤, ◌<◌, Bool, Ok, None, length, IfErr, IfOk};
+ghost use Rattle.std.specs.Prelude.{◌≡◌, [], ⊤, ◌<◌, Ok, None, length, IfErr, IfOk};
 ghost use Rattle.std.specs.Option.{option_copied};
 ghost use Rattle.bridge_decl.specs.Lifetimes.{IsSoundEnvironment};
 ghost use Rattle.hir_elide.specs.Occurrences.{Borrow, Signature};
 ghost use Rattle.hir_elide.specs.Phases.{Returning, Using};
-ghost use Rattle.hir_elide.specs.Signature.{begun};
 ghost use Rattle.bridge_ast.specs.declared.place.ItemPlace.{ItemPlace};
 ghost use Rattle.hir_number.specs.Arity.{HaveArity};
 ghost use Rattle.hir_number.specs.Breaches.{function_breaches, method_breaches};
@@ -13,7 +12,7 @@ ghost use Rattle.hir_number.specs.Faults.{IsOfElision, FaultTold};
 ghost use Rattle.hir_number.specs.Numbered.{AreWithin, IsNumberedFunction, IsNumberedMethod, numbers_of};
 ghost use Rattle.hir_number.specs.Numbers.{signature_numbers};
 ghost use Rattle.hir_number.specs.Naming.{IsNaming, Naming};
-ghost use Rattle.hir_number.specs.Signatures.{function_uses, is_writer, method_uses, receiver_borrow, without_writer};
+ghost use Rattle.hir_number.specs.Signatures.{function_uses, method_uses, receiver_borrow};
 ghost use Rattle.hir_number.specs.inside.Runs.{IsTold, Starts, inputs_run, output_run, params_run, receiver_run, returned_run, signature_run, whole_run};
 ghost use Rattle.hir_number.specs.inside.Threads.{Meets, borrow_run};
 

@@ -5,7 +5,6 @@ ghost use Rattle.std.specs.Option.{option_copied};
 ghost use Rattle.bridge_decl.specs.Lifetimes.{IsSoundEnvironment};
 ghost use Rattle.hir_elide.specs.Occurrences.{Counting, Signature};
 ghost use Rattle.hir_elide.specs.Phases.{Using};
-ghost use Rattle.hir_elide.specs.Signature.{begun};
 ghost use Rattle.bridge_ast.specs.declared.place.ItemPlace.{ItemPlace};
 ghost use Rattle.hir_number.specs.Arity.{HaveArity};
 ghost use Rattle.hir_number.specs.Breaches.{trait_method_breaches};

@@ -1,6 +1,6 @@
 //! NumberLists of the lifetimes of a type.
 
-ghost use Rattle.std.specs.Prelude.{◌≡◌, ◌<◌, length};
+ghost use Rattle.std.specs.Prelude.{◌<◌, length};
 ghost use Rattle.hir_elide.specs.Occurrences.{Signature};
 ghost use Rattle.hir_number.specs.Naming.{IsNaming, Naming};
 ghost use Rattle.hir_number.specs.inside.Threads.{Meets, each_run, type_run};

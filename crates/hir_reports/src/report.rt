@@ -2,7 +2,7 @@
 
 ghost use Rattle.std.specs.Prelude.{◌≡◌, IfOk, Some, map};
 ghost use Rattle.std.specs.Fmt.{DisplaysOnOk};
-ghost use Rattle.hir_reports.specs.Rules.{rule_name, pieces};
+ghost use Rattle.hir_reports.specs.Rules.{pieces};
 ghost use Rattle.hir_reports.specs.Texts.{plain_error, woven, pieces_around, error_text, place_line, error_line, report_text};
 ghost use Rattle.hir_reports.specs.Places.{location_text};
 

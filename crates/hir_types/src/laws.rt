@@ -12,7 +12,8 @@ use crate::positions::{CallbackReturn, Everywhere, InputOnly, OutputOnly, TyPosi
 pub fn callbacks_come_in()
     ensures built { (cb : Callback) → ⟦<InputOnly as PositionTypes>⟧.callback_here cb ≡ Some cb }
     ensures lent { (cb : Callback) → ⟦<InputOnly as PositionTypes>⟧.callback_of cb ≡ Some cb }
-    ensures everywhere { (cb : Callback) → ⟦<Everywhere as PositionTypes>⟧.callback_here cb ≡ None }
+    ensures everywhere { (cb : Callback)
+        → ⟦<Everywhere as PositionTypes>⟧.callback_here cb ≡ None }
     ensures output { (cb : Callback) → ⟦<OutputOnly as PositionTypes>⟧.callback_here cb ≡ None }
     ensures callback_return { (cb : Callback)
         → ⟦<CallbackReturn as PositionTypes>⟧.callback_here cb ≡ None }

@@ -1,6 +1,6 @@
 //! Returns.
 
-ghost use Rattle.std.specs.Prelude.{◌≡◌, ◌↔◌, IsTrue, IfOk, option_copied};
+ghost use Rattle.std.specs.Prelude.{◌≡◌, ◌↔◌, IsTrue, option_copied};
 ghost use Rattle.hir_types.specs.Returns.{GivesNothing, IsWritten, primitive_written, success_of, type_in};
 
 use crate::positions::{OutputOnly, TyPosition};

@@ -1,6 +1,6 @@
 //! A test of what an environment's bounds have to meet, for environments that tests make.
 
-ghost use Rattle.std.specs.Prelude.{◌≡◌, ℕ, ◌<◌, ◌≤◌, length, IsTrue};
+ghost use Rattle.std.specs.Prelude.{◌≡◌, ℕ, ◌<◌, length, IsTrue};
 ghost use Rattle.std.specs.List.{Contains};
 ghost use Rattle.hir_life.specs.Environment.{IsSound, followed};
 

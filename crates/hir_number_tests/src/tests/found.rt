@@ -1,6 +1,6 @@
 //! The declaration of a row in its environment, whose lifetimes fit together.
 
-ghost use Rattle.std.specs.Prelude.{◌≡◌, ◌<◌, length, IfSome};
+ghost use Rattle.std.specs.Prelude.{◌<◌, length, IfSome};
 ghost use Rattle.std.specs.List.{All};
 ghost use Rattle.bridge_decl.specs.Lifetimes.{IsSoundEnvironment};
 ghost use Rattle.bridge_ast.specs.Sound.{HasSoundLifetimes};
