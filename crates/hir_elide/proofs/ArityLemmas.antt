@@ -1,5 +1,5 @@
 -- As many numbers come back as there are lifetimes.
-use Rattle.std.proofs.Common.{◌≡◌, arith, ℕ, suc, ◌-◌, ◌≤◌, List, [], ◌∷◌, ◌++◌, length, true, false, Bool, Ok, Err, Result, refl, ap, subst, ◌∙◌}
+use Rattle.std.proofs.Common.{◌≡◌, arith, ℕ, suc, ◌-◌, ◌≤◌, List, [], ◌∷◌, length, true, false, Bool, Ok, Err, Result, refl, ap, subst, ◌∙◌}
 use Rattle.std.specs.Prelude.{⊤, IfOk, replicate}
 use Rattle.std.proofs.lemmas.List.{length-append, length-map, length-replicate}
 use Rattle.bridge_decl.specs.declared.lifetimes.Lifetime.{Lifetime}

@@ -1,4 +1,5 @@
 pub mod ArityLemmas
+pub mod BelowLemmas
 pub mod GenericLemmas
 pub mod NumberingLemmas
 pub mod OccurrenceLemmas

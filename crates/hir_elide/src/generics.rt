@@ -5,9 +5,10 @@ ghost use Rattle.std.specs.Prelude.{◌≡◌, ◌≤◌, ◌+◌, List, Ok, Err
 ghost use Rattle.bridge_decl.specs.declared.lifetimes.Lifetime.{Lifetime as Used};
 ghost use Rattle.bridge_decl.specs.declared.lifetimes.Lifetime.TheVariants as used_as;
 ghost use Rattle.hir_elide.specs.Generics.{IsUnlessNoMemory, all_or_fault, filled};
-ghost use Rattle.hir_elide.specs.Occurrences.{Signature};
+ghost use Rattle.hir_elide.specs.Occurrences.{Signature, count_of};
 ghost use Rattle.hir_elide.specs.Phases.{lowered_each, with_uses};
 ghost use Rattle.hir_elide.specs.inside.Rooms.{IsRoomFor};
+ghost use Rattle.hir_life.specs.Substitution.{AreBelow};
 
 use crate::fault::ElideFault;
 use crate::lowerer::LowerLifetime;
@@ -81,7 +82,8 @@ fn lower_unwritten<L: LowerLifetime>(
         → lowered_each L.phase s ls ≡ map Ok written.items
         → OnOk result (L.stands lowerer.new (with_uses L.phase s
         (ls ++ replicate count used_as.Anonymous))) }
-    ensures fault { (s : Signature) (ls : List Used) → L.stands lowerer.old (with_uses L.phase s ls)
+    ensures fault { (s : Signature) (ls : List Used)
+        → L.stands lowerer.old (with_uses L.phase s ls)
         → lowered_each L.phase s ls ≡ map Ok written.items
         → IfErr result (λ fault. all_or_fault (lowered_each L.phase s
         (ls ++ replicate count used_as.Anonymous)) ≡ Err fault) }
@@ -112,6 +114,8 @@ pub fn lower_each<L: LowerLifetime>(
     ensures numbers { (s : Signature) → L.stands lowerer.old s
         → IfOk result (λ numbers. lowered_each L.phase s (filled lifetimes.now count)
         ≡ map Ok numbers) }
+    ensures within { (s : Signature) → L.stands lowerer.old s
+        → IfOk result (AreBelow (count_of (with_uses L.phase s (filled lifetimes.now count)))) }
     ensures memory { IsErrOf result ElideFault.NoMemory → lowerer.new ≡ lowerer.old }
     ensures arity { IfOk result (λ numbers. length numbers ≡ count) }
 {

@@ -2,8 +2,9 @@
 
 ghost use Rattle.std.specs.Prelude.{◌≡◌, ◌∷◌, [], ◌≤◌, IfOk, OnOk, IsErrOf, length, true};
 ghost use Rattle.hir_elide.specs.Generics.{IsUnlessNoMemory, OwnHasArity, all_or_fault, filled, lowered_generics, with_generics};
-ghost use Rattle.hir_elide.specs.Occurrences.{Signature};
+ghost use Rattle.hir_elide.specs.Occurrences.{Signature, count_of};
 ghost use Rattle.hir_elide.specs.Phases.{Phase, lowered, lowered_each, with_uses};
+ghost use Rattle.hir_life.specs.Substitution.{AreBelow, IsBelow};
 
 use crate::fault::ElideFault;
 use crate::generics::lower_each;
@@ -17,7 +18,8 @@ pub trait StandsFor {
     ghost stands: { Self → Signature → Type 0 };
 }
 
-/// Lowers lifetimes in the order in which they are used: each to its number, or to `'static`.
+/// Lowers lifetimes in the order in which they are used: each to its number, or to `'static`. A number that is given is below
+/// the count of the lifetimes so far, which is no more than that of all.
 ///
 /// Where there is no memory a lowerer stays as it was. After any other fault it is let go: what it would answer then isn't said.
 pub trait LowerLifetime: StandsFor {
@@ -30,6 +32,8 @@ pub trait LowerLifetime: StandsFor {
             → result ≡ lowered phase s lifetime.now }
         ensures kept { (s : Signature) → Self.stands self.old s
             → OnOk result (Self.stands self.new (with_uses phase s (lifetime.now ∷ []))) }
+        ensures within { (s : Signature) → Self.stands self.old s
+            → IfOk result (IsBelow (count_of (with_uses phase s (lifetime.now ∷ [])))) }
         ensures memory { ¬ (IsErrOf result ElideFault.NoMemory) };
 }
 
@@ -51,6 +55,9 @@ pub trait LifetimeLowerer: LowerLifetime {
         ensures kept { (s : Signature) → Self.stands self.old s
             → OnOk result (Self.stands self.new (with_uses Self.phase s (filled lifetimes.now
             (length type_generics.now.nodes)))) }
+        ensures within { (s : Signature) → Self.stands self.old s
+            → IfOk result (AreBelow (count_of (with_uses Self.phase s (filled lifetimes.now
+            (length type_generics.now.nodes))))) }
         ensures memory { IsErrOf result ElideFault.NoMemory → self.new ≡ self.old }
         ensures arity { IfOk result (λ numbers. length numbers ≡ length type_generics.now.nodes) }
     {
@@ -73,6 +80,9 @@ pub trait LifetimeLowerer: LowerLifetime {
         ensures kept { (s : Signature) → Self.stands self.old s
             → OnOk result (Self.stands self.new (with_generics Self.phase is_self s
             (filled lifetimes.now (length type_generics.now.nodes)))) }
+        ensures within { (s : Signature) → Self.stands self.old s
+            → IfOk result (AreBelow (count_of (with_generics Self.phase is_self s
+            (filled lifetimes.now (length type_generics.now.nodes))))) }
         ensures memory { IsErrOf result ElideFault.NoMemory → self.new ≡ self.old }
         ensures arity { (s : Signature) → Self.stands self.old s
             → (is_self ≡ true → OwnHasArity s (length type_generics.now.nodes))

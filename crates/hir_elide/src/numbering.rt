@@ -8,6 +8,7 @@ ghost use Rattle.hir_elide.specs.Generics.{IsUnlessNoMemory, OwnHasArity, all_or
 ghost use Rattle.hir_elide.specs.Numbering.{lifetime_number, name_number, within_most};
 ghost use Rattle.hir_elide.specs.Occurrences.{Role, Own, Signature, count_of};
 ghost use Rattle.hir_elide.specs.Phases.{Using, lowered_each, with_uses};
+ghost use Rattle.hir_life.specs.Substitution.{AreBelow};
 
 use crate::fault::ElideFault;
 use crate::generics::{copied, lower_each, room_for};
@@ -122,6 +123,9 @@ impl Numbering {
             → OnOk result
             (Numbers self.new (with_own s.has_self s (filled lifetimes.now
             (length type_generics.now.nodes)))) }
+        ensures within { (s : Signature) → Numbers self.old s → IsOwn self.old.own s
+            → IfOk result (AreBelow (count_of (with_own s.has_self s (filled lifetimes.now
+            (length type_generics.now.nodes))))) }
         ensures own { (s : Signature) → Numbers self.old s → IsOwn self.old.own s
             → OnOk result
             (IsOwn self.new.own (with_own s.has_self s (filled lifetimes.now

@@ -4,9 +4,10 @@ ghost use Rattle.std.specs.Prelude.{◌≡◌, ◌<◌, ◌↔◌, ◌∷◌, []
 ghost use Rattle.bridge_decl.specs.Lifetimes.{IsSoundEnvironment};
 ghost use Rattle.hir_life.specs.Declarations.{HasIdents};
 ghost use Rattle.hir_elide.specs.Numbering.{most};
-ghost use Rattle.hir_elide.specs.Occurrences.{Borrow, Signature};
+ghost use Rattle.hir_elide.specs.Occurrences.{Borrow, Signature, count_of};
 ghost use Rattle.hir_elide.specs.Phases.{Using, lowered, with_uses};
 ghost use Rattle.hir_elide.specs.Signature.{begun, IsOfNames};
+ghost use Rattle.hir_life.specs.Substitution.{IsBelow};
 
 use crate::fault::ElideFault;
 use crate::lowerer::StandsFor;
@@ -72,6 +73,9 @@ impl SelfParamLifetimeLowerer {
         ensures kept { (s : Signature) → ⟦<SelfParamLifetimeLowerer as StandsFor>⟧.stands self s
             → IfOk result (λ both. ⟦<ParamLifetimeLowerer as StandsFor>⟧.stands both.1
             (with_uses (Using Borrow) s (lifetime.now ∷ []))) }
+        ensures within { (s : Signature) → ⟦<SelfParamLifetimeLowerer as StandsFor>⟧.stands self s
+            → IfOk result (λ both. IsBelow
+            (count_of (with_uses (Using Borrow) s (lifetime.now ∷ []))) both.0) }
     {
         let mut base = self.base;
         let number = base.number(lifetime)?;

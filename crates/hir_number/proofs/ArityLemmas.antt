@@ -1,17 +1,15 @@
 -- The numbers of a use are as many as it has lifetimes.
-use Rattle.std.proofs.Common.{◌≡◌, arith, ℕ, suc, ◌+◌, ◌-◌, ◌≤◌, List, [], ◌∷◌, ◌++◌, length, map, true, false, Bool, Some, None, Ok, Err, Result, refl, sym, ap, subst, ◌∙◌}
-use Rattle.std.specs.Prelude.{⊤, ◌||◌, nat_lt, replicate, if◌then◌else◌}
-use Rattle.std.proofs.lemmas.List.{length-append, length-map, length-replicate}
+use Rattle.std.proofs.Common.{◌≡◌, arith, ℕ, suc, ◌+◌, ◌≤◌, List, [], ◌∷◌, ◌++◌, length, map, true, false, Bool, Some, None, Ok, Err, Result, refl, sym, ap, subst, ◌∙◌}
+use Rattle.std.specs.Prelude.{⊤, ◌||◌, nat_lt, if◌then◌else◌}
 use Rattle.bridge_decl.specs.declared.lifetimes.Lifetime.{Lifetime}
-use Rattle.bridge_decl.specs.declared.lifetimes.Lifetime.TheVariants as written
 use Rattle.bridge_decl.specs.declared.lifetimes.LifetimeEnv.{LifetimeEnv}
 use Rattle.bridge_ast.specs.Each.{each_after}
 use Rattle.hir_elide.specs.declared.fault.ElideFault.{ElideFault}
 use Rattle.hir_elide.specs.declared.fault.ElideFault.TheVariants as elide
-use Rattle.hir_elide.specs.Generics.{all_or_fault, filled, lowered_generics, own_numbers, with_first}
-use Rattle.hir_elide.specs.Numbering.{Number, lifetime_number, lifetime_numbers, most, one_if_anonymous}
+use Rattle.hir_elide.specs.Generics.{all_or_fault, filled, lowered_generics}
+use Rattle.hir_elide.specs.Numbering.{Number, lifetime_number, most, one_if_anonymous}
 use Rattle.hir_elide.specs.Occurrences.{Occurrence, Own, Role, Signature, is_own, numbers_with, used_as}
-use Rattle.hir_elide.specs.Phases.{Phase, Using, Returning, Defining, defined, lowered, lowered_each, occurring, returned}
+use Rattle.hir_elide.specs.Phases.{Phase, Using, Returning, Defining, lowered, occurring}
 use Rattle.hir_life.specs.declared.maybe_static.MaybeStatic.{MaybeStatic}
 use Rattle.hir_elide.proofs.ArityLemmas.{Long, all_long, filled_long, generics_long, meets_at}
 use Rattle.hir_number.specs.declared.fault.NumberFault.{NumberFault}
@@ -24,7 +22,7 @@ use Rattle.hir_number.specs.Occurrences.{has_own, signature_with}
 use Rattle.hir_number.specs.Shapes.{NumberLists}
 use Rattle.hir_number.specs.Signatures.{Placed, phase_of}
 use Rattle.hir_number.specs.Uses.{Use, One, Path}
-use Rattle.hir_number.proofs.FaultLemmas.{Each}
+use Rattle.hir_elide.proofs.BelowLemmas.{Each}
 use Rattle.hir_number.proofs.FlatLemmas.{has_push, told, told_push}
 use Rattle.hir_number.proofs.RoleLemmas.{meets_same, own_told, phase_meets, use_told}
 

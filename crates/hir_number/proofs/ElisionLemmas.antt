@@ -25,7 +25,8 @@ use Rattle.hir_number.specs.Naming.{Naming}
 use Rattle.hir_number.specs.Numbers.{all_answers, answers, signature_numbers}
 use Rattle.hir_number.specs.Signatures.{Section, Placed, TraitReturn, Usual, field_uses, function_uses, method_uses, output_uses, param_uses, placed, trait_borrow, trait_method_uses, trait_receiver_uses}
 use Rattle.hir_number.specs.Uses.{Use, One, Path, borrow_uses, type_use}
-use Rattle.hir_number.proofs.FaultLemmas.{Each, FineBy, IsKnown, OfElision, PlacedFine, UseFine, answers_fine, each_both}
+use Rattle.hir_elide.proofs.BelowLemmas.{Each}
+use Rattle.hir_number.proofs.FaultLemmas.{FineBy, IsKnown, OfElision, PlacedFine, UseFine, answers_fine, each_both}
 
 elision : OfElision IsOfElision
 elision = record { anonymous = tt; no_source = tt; ambiguous = tt; too_many = tt }

@@ -14,6 +14,7 @@ use Rattle.hir_elide.specs.Generics.{all_or_fault, filled, lowered_generics, own
 use Rattle.hir_elide.specs.Numbering.{Number, lifetime_number, lifetime_numbers, most, name_number, one_if_anonymous, within_most}
 use Rattle.hir_elide.specs.Occurrences.{Occurrence, Own, Role, Signature, count_of, is_borrow, is_counting, is_own, numbers_with, used_as}
 use Rattle.hir_elide.specs.Phases.{Phase, Using, Returning, Defining, defined, lowered, lowered_each, returned}
+use Rattle.hir_elide.proofs.BelowLemmas.{Each}
 use Rattle.hir_life.specs.declared.maybe_static.MaybeStatic.{MaybeStatic}
 use Rattle.hir_life.specs.declared.maybe_static.MaybeStatic.TheVariants.{NonStatic}
 use Rattle.hir_number.specs.declared.fault.NumberFault.{NumberFault}
@@ -43,10 +44,6 @@ FineBy P (Ok x) = ⊤
 FineBy P (Err e) = P e
 
 -- every element is so
-abbrev pub Each : {A : Type 0} → (A → Type 0) → List A → Type 0
-Each P [] = ⊤
-Each P (x ∷ xs) = P x × Each P xs
-
 pub each_both : {A : Type 0} (P : A → Type 0) (xs ys : List A) → Each P xs → Each P ys → Each P (xs ++ ys)
 each_both P [] ys h k = k
 each_both P (x ∷ xs) ys h k = (h.0, each_both P xs ys h.1 k)

@@ -31,7 +31,8 @@ use Rattle.hir_elide.proofs.ArityLemmas.{meets_at}
 use Rattle.hir_number.proofs.ArityLemmas.{IsApart, IsFit, PlacedFit, numbers_arity}
 use Rattle.hir_number.proofs.BreachLemmas.{of_placed, of_signature}
 use Rattle.hir_number.proofs.ElisionLemmas.{few, limit_kept, none_of}
-use Rattle.hir_number.proofs.FaultLemmas.{Each, each_both}
+use Rattle.hir_elide.proofs.BelowLemmas.{Each}
+use Rattle.hir_number.proofs.FaultLemmas.{each_both}
 use Rattle.hir_number.proofs.NamedLemmas.{IsNamed, borrow_named, named, output_named, params_named, receiver_named}
 
 not_true : (b : Bool) → ¬ (b ≡ true) → b ≡ false

@@ -11,7 +11,8 @@ use Rattle.bridge_decl.specs.declared.types.TypeName.TheFolds.{fold-roll-TypeNam
 use Rattle.hir_number.specs.Naming.{Definition, Naming, type_found}
 use Rattle.hir_number.specs.Signatures.{output_uses, param_uses, receiver_uses}
 use Rattle.hir_number.specs.Uses.{Use, One, Path, borrow_uses, concatenated, level_uses, optional_uses, type_uses}
-use Rattle.hir_number.proofs.FaultLemmas.{Each, each_both}
+use Rattle.hir_elide.proofs.BelowLemmas.{Each}
+use Rattle.hir_number.proofs.FaultLemmas.{each_both}
 
 -- what the segments name, without its kind
 abbrev pub named : Naming → List (List ℕ) → Option Definition

@@ -1,6 +1,6 @@
 -- A signature or a definition whose lifetimes have numbers: it is as it is declared, but for the lifetimes, and the numbers in it
 -- are those of its uses, in order.
-use Rattle.std.specs.Prelude.{◌≡◌, ◌<◌, ⊤, ℕ, List, [], ◌∷◌, ◌++◌, map, option_map, Option, Some, None, Ok}
+use Rattle.std.specs.Prelude.{◌≡◌, ℕ, List, [], ◌∷◌, ◌++◌, map, option_map, Option, Some, None, Ok}
 use Rattle.std.specs.List.{All}
 use Rattle.bridge_decl.specs.declared.functions.Function.{Function}
 use Rattle.bridge_decl.specs.declared.lifetimes.LifetimeEnv.{LifetimeEnv}
@@ -12,8 +12,7 @@ use Rattle.bridge_decl.specs.declared.traits.TraitMethod.{TraitMethod}
 use Rattle.bridge_decl.specs.declared.traits.TraitSelfParam.{TraitSelfParam}
 use Rattle.bridge_decl.specs.declared.types.TypeName.{TypeName}
 use Rattle.hir_elide.specs.Signature.{environment_of}
-use Rattle.hir_life.specs.declared.maybe_static.MaybeStatic.{MaybeStatic}
-use Rattle.hir_life.specs.declared.maybe_static.MaybeStatic.TheVariants.{Static, NonStatic}
+use Rattle.hir_life.specs.Substitution.{AreBelow}
 use Rattle.hir_number.specs.declared.numbered.Kind.{Kind}
 use Rattle.hir_number.specs.declared.numbered.NumberedType.{NumberedType}
 use Rattle.hir_number.specs.declared.numbered.Target.{Target}
@@ -109,11 +108,6 @@ pub record AreNumberedFields (names : Naming) (item : Struct) (types : List Numb
 
 -- ---- each number is one of the lifetimes
 
--- `'static`, or below their count
-abbrev pub IsWithin : ℕ → MaybeStatic ℕ → Type 0
-IsWithin count Static = ⊤
-IsWithin count (NonStatic n) = n < count
-
--- all of them are
+-- each is `'static`, or below their count
 abbrev pub AreWithin : ℕ → NumberLists → Type 0
-AreWithin count numbers = All (All (IsWithin count)) numbers
+AreWithin count numbers = All (AreBelow count) numbers

@@ -1,7 +1,8 @@
 use Rattle.std.proofs.Common.{◌-◌, ◌∙◌, Ok, ap, length, replicate, sym}
 use Rattle.std.proofs.lemmas.Result.{err_from_is_err_and}
 use Rattle.bridge_decl.specs.declared.lifetimes.Lifetime.TheVariants as written
-use Rattle.hir_elide.specs.Generics.{all_or_fault}
+use Rattle.hir_elide.specs.Generics.{all_or_fault, filled}
+use Rattle.hir_elide.proofs.BelowLemmas.{list_within}
 use Rattle.hir_elide.proofs.GenericLemmas.{all_ok, fault_more, tells}
 use Rattle.hir_elide.proofs.generics.lower_each.Goals as goal
 
@@ -21,3 +22,7 @@ pub returns-clause-told : goal.returns-clause-told
 returns-clause-told g c = λ s stands.
     ap all_or_fault (c.in_ok-lowered.ensures.numbers s c.args.lifetimes.now (c.in_ok-written.ensures.kept s stands) (c.in_ok-written.ensures.numbers s stands))
     ∙ all_ok c.in_ok-lowered.lowered.items ∙ ap Ok (sym c.from_list.ensures)
+
+pub returns-clause-within : goal.returns-clause-within
+returns-clause-within g c = λ s stands.
+    list_within g.L.LowerLifetime.phase s (filled c.args.lifetimes.now c.args.count) (Ok c.from_list.result) (returns-clause-told g c s stands)

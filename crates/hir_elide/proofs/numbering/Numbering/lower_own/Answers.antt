@@ -2,6 +2,7 @@ use Rattle.std.proofs.Common.{◌≡◌, Ok, length, subst, sym}
 use Rattle.hir_elide.specs.Generics.{all_or_fault, filled, own_numbers}
 use Rattle.hir_elide.specs.inside.Standing.{IsOwn}
 use Rattle.hir_elide.proofs.ArityLemmas.{own_told_long}
+use Rattle.hir_elide.proofs.BelowLemmas.{first_within, own_within}
 use Rattle.hir_elide.proofs.NumberingLemmas.{first_met, own_again}
 use Rattle.hir_elide.proofs.numbering.Numbering.lower_own.Goals as goal
 
@@ -21,3 +22,13 @@ returns-in_ok-try_clone-in-Some-clause-arity c = λ s numbers own arity.
     own_told_long s c.args.lifetimes.now (length c.args.type_generics.now.nodes) (Ok c.in_ok-try_clone-in-Some.field-0) c.requires arity
     (subst (λ ns. all_or_fault (own_numbers s.has_self s ls) ≡ Ok ns) (sym c.in_ok-try_clone-in-Some.ensures)
     (own_again s ls c.in-Some.own (subst (λ o. IsOwn o s) c.in-Some.is own)))
+
+pub returns-in_ok-try_clone-in-Some-clause-within : goal.returns-in_ok-try_clone-in-Some-clause-within
+returns-in_ok-try_clone-in-Some-clause-within c = λ s numbers own.
+    own_within s (filled c.args.lifetimes.now (length c.args.type_generics.now.nodes)) (Ok c.in_ok-try_clone-in-Some.field-0)
+    (returns-in_ok-try_clone-in-Some-clause-told c s numbers own)
+
+pub returns-in-None-clause-within : goal.returns-in-None-clause-within
+returns-in-None-clause-within c = λ s numbers own.
+    first_within s (filled c.args.lifetimes.now (length c.args.type_generics.now.nodes)) c.first_own.result (subst (λ o. IsOwn o s) c.in-None.is own)
+    (c.first_own.ensures.told s numbers)

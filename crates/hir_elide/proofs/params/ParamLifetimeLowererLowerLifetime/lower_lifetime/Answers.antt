@@ -1,8 +1,9 @@
-use Rattle.std.proofs.Common.{refl, subst, sym, ◌∷◌, []}
+use Rattle.std.proofs.Common.{Ok, refl, subst, sym, ◌∷◌, []}
 use Rattle.hir_elide.specs.Occurrences.{Counting, is_borrow, is_counting, used_as}
 use Rattle.hir_elide.specs.Phases.{Using, with_uses}
 use Rattle.hir_elide.specs.inside.Sources.{IsSource}
 use Rattle.hir_elide.specs.inside.Standing.{IsOwn}
+use Rattle.hir_elide.proofs.BelowLemmas.{one_within}
 use Rattle.hir_elide.proofs.NumberingLemmas.{own_otherwise, source_used}
 use Rattle.hir_elide.proofs.params.ParamLifetimeLowererLowerLifetime.lower_lifetime.Goals as goal
 
@@ -16,3 +17,6 @@ returns-clause-kept c = λ s at.
           subst (λ src. IsSource src (used_as is_borrow (with_uses (Using Counting) s (l ∷ []))) (used_as is_counting (with_uses (Using Counting) s (l ∷ []))))
           (sym c.with-self.ensures) (source_used c.args.self.now.source s l c.in_ok-number.number (c.in_ok-number.ensures.told s at.numbers) at.source);
     }
+
+pub returns-clause-within : goal.returns-clause-within
+returns-clause-within c = λ s at. one_within (Using Counting) s c.args.lifetime.now (Ok c.in_ok-number.number) (c.in_ok-number.ensures.told s at.numbers)
