@@ -1,0 +1,5 @@
+pub mod Listing
+pub mod Fitness
+pub mod Faults
+pub mod Lookups
+pub mod inside
