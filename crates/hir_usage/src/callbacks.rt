@@ -1,0 +1,70 @@
+//! How callbacks and methods use definitions.
+
+ghost use Rattle.std.specs.Prelude.{◌≡◌, ◌++◌, IfOk, OnOk};
+ghost use Rattle.std.specs.List.{flat_map};
+ghost use Rattle.hir_usage.specs.Callbacks.{callback_uses, input_uses, method_uses, output_uses};
+ghost use Rattle.hir_usage.specs.Seen.{all_used};
+
+use crate::returns::add_return;
+use crate::types::add_type;
+use crate::uses::Use;
+use bridge_decl::NoMemory;
+use hir_definitions::{Method, Param};
+use hir_types::{Callback, CallbackParam};
+use std::alloc::Global;
+
+/// Adds how what a callback takes uses definitions.
+fn add_callback_params<'a>(
+    uses: &mut Vec<Use<'a>>,
+    params: &'a [CallbackParam],
+) -> Result<(), NoMemory>
+    ensures { OnOk result (all_used uses.new
+        ≡ all_used uses.old ++ flat_map (λ p. output_uses p.ty) params.now) }
+{
+    for param in params {
+        add_type(uses, &param.ty, false)?;
+    }
+    Ok(())
+}
+
+/// Adds how a callback uses definitions.
+pub(crate) fn add_callback<'a>(
+    uses: &mut Vec<Use<'a>>,
+    callback: &'a Callback,
+) -> Result<(), NoMemory>
+    ensures { OnOk result (all_used uses.new ≡ all_used uses.old ++ callback_uses callback.now) }
+{
+    add_callback_params(uses, callback.params.as_slice())?;
+    add_return(uses, &callback.output)
+}
+
+/// How a callback, or a method of a trait, uses definitions: what it takes, and what it returns.
+pub fn callback_uses(alloc: Global, callback: &Callback) -> Result<Vec<Use<'_>>, NoMemory>
+    ensures { IfOk result (λ uses. all_used uses ≡ callback_uses callback.now) }
+{
+    let mut uses = Vec::new(alloc);
+    add_callback(&mut uses, callback)?;
+    Ok(uses)
+}
+
+/// Adds how parameters use definitions.
+fn add_params<'a>(uses: &mut Vec<Use<'a>>, params: &'a [Param]) -> Result<(), NoMemory>
+    ensures { OnOk result (all_used uses.new
+        ≡ all_used uses.old ++ flat_map (λ p. input_uses p.ty) params.now) }
+{
+    for param in params {
+        add_type(uses, &param.ty, false)?;
+    }
+    Ok(())
+}
+
+/// How a method or a function uses definitions: its parameters with what their callbacks do, and
+/// its return. A receiver is no such use.
+pub fn method_uses(alloc: Global, method: &Method) -> Result<Vec<Use<'_>>, NoMemory>
+    ensures { IfOk result (λ uses. all_used uses ≡ method_uses method.now) }
+{
+    let mut uses = Vec::new(alloc);
+    add_params(&mut uses, method.params.as_slice())?;
+    add_return(&mut uses, &method.output)?;
+    Ok(uses)
+}
