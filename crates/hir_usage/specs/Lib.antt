@@ -4,3 +4,4 @@ pub mod Types
 pub mod Returns
 pub mod Callbacks
 pub mod Definitions
+pub mod Tables

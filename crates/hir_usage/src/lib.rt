@@ -39,14 +39,26 @@
 //!
 //! # Options
 //!
-//! What is directly in an option of Diplomat's, or in what is returned and may be nothing, is in an
-//! option. An opaque that may be absent is so by itself, since it is a pointer that may be null:
-//! where it comes in it is borrowed, as in `pages`, and where it only goes out it is owned, as what
-//! `open` returns. A borrowed opaque that goes out and may be absent is not.
+//! What is directly in an option of Diplomat's, or in what is returned and may be nothing, is in
+//! an option. An opaque that may be absent is in one by itself: one that comes in where it is
+//! borrowed, as in `pages`, and one that goes out where it is owned, as what `open` returns. A
+//! borrowed opaque that goes out and may be absent is in none.
 //!
 //! [`type_uses`], [`return_uses`], [`callback_uses`], [`method_uses`], [`field_uses`] and
-//! [`trait_uses`] are the parts. Results are lent and never copied, and a list takes one step and
-//! one place a use.
+//! [`trait_uses`] are the parts. In these lists results are lent and never copied, and a list
+//! takes one step and one place a use.
+//!
+//! # Tables
+//!
+//! A [`UseTable`] has for each definition all that is known of how it is used. Uses are noted in
+//! it one after the other, and results are kept in that order. After all parts above it says:
+//!
+//! | definition | sliced | in an option | results |
+//! |---|---|---|---|
+//! | `Page` | yes | yes | none |
+//! | `Line` | yes | yes | one that comes in, one that goes out |
+//! | `Color` | no | no | one that goes out |
+//! | `Pair` | no | no | none |
 //!
 //! Upstream, the crate `diplomat_core`, notes this on definitions as it lowers them, in its module
 //! `hir::lowering`.
@@ -56,6 +68,7 @@ mod callbacks;
 mod definitions;
 mod positions;
 mod returns;
+mod tables;
 mod types;
 mod uses;
 
@@ -63,5 +76,6 @@ pub use callbacks::{callback_uses, method_uses};
 pub use definitions::{field_uses, trait_uses};
 pub use positions::{PositionUses, ReturnPosition};
 pub use returns::return_uses;
+pub use tables::UseTable;
 pub use types::type_uses;
 pub use uses::{LentId, Use};

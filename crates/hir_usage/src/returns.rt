@@ -3,7 +3,7 @@
 ghost use Rattle.std.specs.Prelude.{◌≡◌, ◌++◌, IfOk, OnOk};
 ghost use Rattle.hir_types.specs.Returns.{type_in};
 ghost use Rattle.hir_mentions.specs.Mentions.{where_any};
-ghost use Rattle.hir_usage.specs.Returns.{fallible_uses, result_uses, return_uses};
+ghost use Rattle.hir_usage.specs.Returns.{result_uses, return_uses};
 ghost use Rattle.hir_usage.specs.Seen.{all_used};
 ghost use Rattle.hir_usage.specs.Types.{optioned_uses, type_uses, uses_within};
 

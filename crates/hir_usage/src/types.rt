@@ -13,8 +13,8 @@ use hir_ids::{InputOrOutput, OpaqueOwner, Optional};
 use hir_types::{HirType, OpaquePath, Slice};
 use std::alloc::Global;
 
-/// Whether an opaque is in an option by itself: it may be absent, and it is borrowed where it comes
-/// in, or owned where it only goes out.
+/// Whether an opaque is in an option by itself: it may be absent, and it is borrowed where it
+/// comes in, or owned where it only goes out.
 fn is_optioned(status: InputOrOutput, is_optional: bool, is_owned: bool) -> bool
     ensures { result ≡ is_optioned status is_optional is_owned }
 {

@@ -41,10 +41,11 @@ pub enum Use<'a> {
     Sliced(LentId<'a>),
     /// It is in an option.
     Optioned(LentId<'a>),
-    /// It is the success or the error of the result that a callback or a method of a trait
-    /// returns: all of its success, and its error where it has one.
+    /// It is the success or the error of a result that a callback or a method of a trait returns,
+    /// of which the success and the error are lent.
     Input(LentId<'a>, &'a SuccessType<CallbackReturn>, &'a Option<HirType<CallbackReturn>>),
-    /// It is the success or the error of the result that a method or a function returns.
+    /// It is the success or the error of a result that a method or a function returns, of which
+    /// the success and the error are lent.
     Output(LentId<'a>, &'a SuccessType<OutputOnly>, &'a Option<OutType>),
 }
 
