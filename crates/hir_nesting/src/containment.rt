@@ -57,8 +57,9 @@ fn add_contained(
     requires within { from < length graph.old }
     requires all { length graph.old ≡ counts.now.out_structs + counts.now.structs }
     requires fits { length graph.old ≤ usize.MAX }
-    ensures edges { (before after : List (List ℕ)) (row : List ℕ) → graph.old ≡ before ++ row ∷ after
-        → length before ≡ from → OnOk result (graph.new ≡ before ++ (row
+    ensures edges { (before after : List (List ℕ)) (row : List ℕ)
+        → graph.old ≡ before ++ row ∷ after → length before ≡ from
+        → OnOk result (graph.new ≡ before ++ (row
         ++ struct_numbers counts.now.out_structs counts.now.structs (id.now ∷ [])) ∷ after) }
     ensures each { OnOk result (length graph.new ≡ length graph.old) }
 {

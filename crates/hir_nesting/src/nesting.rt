@@ -101,7 +101,8 @@ fn struct_at(out_structs: usize, number: usize) -> TypeId
 
 /// The first of these structs that has a fault. None exactly where none has.
 fn first_faulty(out_structs: usize, faults: &[Option<NestingFault>]) -> Option<TypeId>
-    ensures { (g : List (List ℕ)) → AreNestingFaults g faults.now → TellsMisfit g out_structs result }
+    ensures { (g : List (List ℕ)) → AreNestingFaults g faults.now
+        → TellsMisfit g out_structs result }
 {
     for (number, fault) in faults.iter().enumerate() {
         if fault.is_some() {

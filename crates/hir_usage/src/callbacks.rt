@@ -2,7 +2,7 @@
 
 ghost use Rattle.std.specs.Prelude.{◌≡◌, ◌++◌, IfOk, OnOk};
 ghost use Rattle.std.specs.List.{flat_map};
-ghost use Rattle.hir_usage.specs.Callbacks.{callback_uses, input_uses, method_uses, output_uses};
+ghost use Rattle.hir_usage.specs.Callbacks.{callback_usages, input_usages, method_usages, output_usages};
 ghost use Rattle.hir_usage.specs.Seen.{all_used};
 
 use crate::returns::add_return;
@@ -19,7 +19,7 @@ fn add_callback_params<'a>(
     params: &'a [CallbackParam],
 ) -> Result<(), NoMemory>
     ensures { OnOk result (all_used uses.new
-        ≡ all_used uses.old ++ flat_map (λ p. output_uses p.ty) params.now) }
+        ≡ all_used uses.old ++ flat_map (λ p. output_usages p.ty) params.now) }
 {
     for param in params {
         add_type(uses, &param.ty, false)?;
@@ -32,15 +32,15 @@ pub(crate) fn add_callback<'a>(
     uses: &mut Vec<Use<'a>>,
     callback: &'a Callback,
 ) -> Result<(), NoMemory>
-    ensures { OnOk result (all_used uses.new ≡ all_used uses.old ++ callback_uses callback.now) }
+    ensures { OnOk result (all_used uses.new ≡ all_used uses.old ++ callback_usages callback.now) }
 {
     add_callback_params(uses, callback.params.as_slice())?;
     add_return(uses, &callback.output)
 }
 
 /// How a callback, or a method of a trait, uses definitions: what it takes, and what it returns.
-pub fn callback_uses(alloc: Global, callback: &Callback) -> Result<Vec<Use<'_>>, NoMemory>
-    ensures { IfOk result (λ uses. all_used uses ≡ callback_uses callback.now) }
+pub fn callback_usages(alloc: Global, callback: &Callback) -> Result<Vec<Use<'_>>, NoMemory>
+    ensures { IfOk result (λ uses. all_used uses ≡ callback_usages callback.now) }
 {
     let mut uses = Vec::new(alloc);
     add_callback(&mut uses, callback)?;
@@ -50,7 +50,7 @@ pub fn callback_uses(alloc: Global, callback: &Callback) -> Result<Vec<Use<'_>>,
 /// Adds how parameters use definitions.
 fn add_params<'a>(uses: &mut Vec<Use<'a>>, params: &'a [Param]) -> Result<(), NoMemory>
     ensures { OnOk result (all_used uses.new
-        ≡ all_used uses.old ++ flat_map (λ p. input_uses p.ty) params.now) }
+        ≡ all_used uses.old ++ flat_map (λ p. input_usages p.ty) params.now) }
 {
     for param in params {
         add_type(uses, &param.ty, false)?;
@@ -60,8 +60,8 @@ fn add_params<'a>(uses: &mut Vec<Use<'a>>, params: &'a [Param]) -> Result<(), No
 
 /// How a method or a function uses definitions: its parameters with what their callbacks do, and
 /// its return. A receiver is no such use.
-pub fn method_uses(alloc: Global, method: &Method) -> Result<Vec<Use<'_>>, NoMemory>
-    ensures { IfOk result (λ uses. all_used uses ≡ method_uses method.now) }
+pub fn method_usages(alloc: Global, method: &Method) -> Result<Vec<Use<'_>>, NoMemory>
+    ensures { IfOk result (λ uses. all_used uses ≡ method_usages method.now) }
 {
     let mut uses = Vec::new(alloc);
     add_params(&mut uses, method.params.as_slice())?;

@@ -1,9 +1,9 @@
 //! How the parts of definitions use definitions.
 
 ghost use Rattle.std.specs.Prelude.{◌≡◌, IfOk};
-ghost use Rattle.hir_usage.specs.Definitions.{fields_uses, trait_uses};
+ghost use Rattle.hir_usage.specs.Definitions.{fields_usages, trait_usages};
 ghost use Rattle.hir_usage.specs.Seen.{all_used};
-ghost use Rattle.hir_usage.specs.Types.{type_uses};
+ghost use Rattle.hir_usage.specs.Types.{type_usages};
 
 use crate::callbacks::add_callback;
 use crate::positions::PositionUses;
@@ -14,12 +14,12 @@ use hir_definitions::{StructField, TraitDef};
 use std::alloc::Global;
 
 /// How the fields of a struct use definitions, in order.
-pub fn field_uses<P: PositionUses>(
+pub fn field_usages<P: PositionUses>(
     alloc: Global,
     fields: &[StructField<P>],
 ) -> Result<Vec<Use<'_>>, NoMemory>
-    ensures { IfOk result (λ uses. all_used uses ≡ fields_uses
-        (type_uses P.IN_OUT_STATUS P.OpaqueOwnership.borrow_of P.StructPath.id_of P.of_callback)
+    ensures { IfOk result (λ uses. all_used uses ≡ fields_usages
+        (type_usages P.IN_OUT_STATUS P.OpaqueOwnership.borrow_of P.StructPath.id_of P.of_callback)
         fields.now) }
 {
     let mut uses = Vec::new(alloc);
@@ -30,8 +30,8 @@ pub fn field_uses<P: PositionUses>(
 }
 
 /// How the methods of a trait use definitions, in order.
-pub fn trait_uses(alloc: Global, def: &TraitDef) -> Result<Vec<Use<'_>>, NoMemory>
-    ensures { IfOk result (λ uses. all_used uses ≡ trait_uses def.now) }
+pub fn trait_usages(alloc: Global, def: &TraitDef) -> Result<Vec<Use<'_>>, NoMemory>
+    ensures { IfOk result (λ uses. all_used uses ≡ trait_usages def.now) }
 {
     let mut uses = Vec::new(alloc);
     for method in def.methods.as_slice() {

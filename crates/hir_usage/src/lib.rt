@@ -44,8 +44,8 @@
 //! borrowed, as in `pages`, and one that goes out where it is owned, as what `open` returns. A
 //! borrowed opaque that goes out and may be absent is in none.
 //!
-//! [`type_uses`], [`return_uses`], [`callback_uses`], [`method_uses`], [`field_uses`] and
-//! [`trait_uses`] are the parts. In these lists results are lent and never copied, and a list
+//! [`type_usages`], [`return_usages`], [`callback_usages`], [`method_usages`], [`field_usages`] and
+//! [`trait_usages`] are the parts. In these lists results are lent and never copied, and a list
 //! takes one step and one place a use.
 //!
 //! # Tables
@@ -72,10 +72,10 @@ mod tables;
 mod types;
 mod uses;
 
-pub use callbacks::{callback_uses, method_uses};
-pub use definitions::{field_uses, trait_uses};
+pub use callbacks::{callback_usages, method_usages};
+pub use definitions::{field_usages, trait_usages};
 pub use positions::{PositionUses, ReturnPosition};
-pub use returns::return_uses;
+pub use returns::return_usages;
 pub use tables::UseTable;
-pub use types::type_uses;
+pub use types::type_usages;
 pub use uses::{LentId, Use};

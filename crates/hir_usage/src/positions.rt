@@ -3,7 +3,7 @@
 ghost use Rattle.std.specs.Prelude.{◌≡◌, [], ◌∷◌, ◌++◌, OnOk, option_copied};
 ghost use Rattle.hir_definitions.specs.declared.usage.ResultUsage.{ResultUsage};
 ghost use Rattle.hir_mentions.specs.Mentions.{where_any};
-ghost use Rattle.hir_usage.specs.Callbacks.{callback_uses};
+ghost use Rattle.hir_usage.specs.Callbacks.{callback_usages};
 ghost use Rattle.hir_usage.specs.Seen.{all_used, id_lent};
 ghost use Rattle.hir_usage.specs.Uses.{InResult};
 
@@ -86,7 +86,7 @@ impl PositionUses for CallbackReturn {
 }
 
 impl PositionUses for InputOnly {
-    ghost of_callback = { callback_uses };
+    ghost of_callback = { callback_usages };
 
     fn struct_id<'a>(path: &'a StructPath) -> LentId<'a> {
         LentId::Struct(&path.tcx_id)

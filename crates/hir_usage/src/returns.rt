@@ -3,9 +3,9 @@
 ghost use Rattle.std.specs.Prelude.{◌≡◌, ◌++◌, IfOk, OnOk};
 ghost use Rattle.hir_types.specs.Returns.{type_in};
 ghost use Rattle.hir_mentions.specs.Mentions.{where_any};
-ghost use Rattle.hir_usage.specs.Returns.{result_uses, return_uses};
+ghost use Rattle.hir_usage.specs.Returns.{result_usages, return_usages};
 ghost use Rattle.hir_usage.specs.Seen.{all_used};
-ghost use Rattle.hir_usage.specs.Types.{optioned_uses, type_uses, uses_within};
+ghost use Rattle.hir_usage.specs.Types.{optioned_usages, type_usages, uses_within};
 
 use crate::positions::{PositionUses, ReturnPosition};
 use crate::types::{add_type, definition_of};
@@ -36,7 +36,7 @@ fn add_error<'a, P: PositionUses>(
     error: &'a Option<HirType<P>>,
 ) -> Result<(), NoMemory>
     ensures { OnOk result (all_used uses.new ≡ all_used uses.old
-        ++ where_any (type_uses P.IN_OUT_STATUS P.OpaqueOwnership.borrow_of P.StructPath.id_of
+        ++ where_any (type_usages P.IN_OUT_STATUS P.OpaqueOwnership.borrow_of P.StructPath.id_of
         P.of_callback) error.now) }
 {
     match error {
@@ -53,7 +53,7 @@ fn add_result<'a, P: ReturnPosition>(
     err: &'a Option<HirType<P>>,
 ) -> Result<(), NoMemory>
     ensures { OnOk result (all_used uses.new ≡ all_used uses.old
-        ++ result_uses P.StructPath.id_of (P.result_of ok.now err.now) ty.now) }
+        ++ result_usages P.StructPath.id_of (P.result_of ok.now err.now) ty.now) }
 {
     match definition_of(ty) {
         Some(id) => P::add_result(uses, id, ok, err),
@@ -68,8 +68,9 @@ fn add_results<'a, P: ReturnPosition>(
     err: &'a Option<HirType<P>>,
 ) -> Result<(), NoMemory>
     ensures { OnOk result (all_used uses.new ≡ all_used uses.old
-        ++ where_any (result_uses P.StructPath.id_of (P.result_of ok.now err.now)) (type_in ok.now)
-        ++ where_any (result_uses P.StructPath.id_of (P.result_of ok.now err.now)) err.now) }
+        ++ where_any (result_usages P.StructPath.id_of (P.result_of ok.now err.now))
+        (type_in ok.now)
+        ++ where_any (result_usages P.StructPath.id_of (P.result_of ok.now err.now)) err.now) }
 {
     if let SuccessType::OutType(ty) = ok {
         add_result(uses, ty, ok, err)?;
@@ -85,9 +86,9 @@ pub(crate) fn add_return<'a, P: ReturnPosition>(
     uses: &mut Vec<Use<'a>>,
     output: &'a ReturnType<P>,
 ) -> Result<(), NoMemory>
-    ensures { OnOk result (all_used uses.new ≡ all_used uses.old ++ return_uses
-        (type_uses P.IN_OUT_STATUS P.OpaqueOwnership.borrow_of P.StructPath.id_of P.of_callback)
-        (optioned_uses P.IN_OUT_STATUS P.OpaqueOwnership.borrow_of P.StructPath.id_of
+    ensures { OnOk result (all_used uses.new ≡ all_used uses.old ++ return_usages
+        (type_usages P.IN_OUT_STATUS P.OpaqueOwnership.borrow_of P.StructPath.id_of P.of_callback)
+        (optioned_usages P.IN_OUT_STATUS P.OpaqueOwnership.borrow_of P.StructPath.id_of
         P.of_callback) P.StructPath.id_of P.result_of output.now) }
 {
     match output {
@@ -102,13 +103,13 @@ pub(crate) fn add_return<'a, P: ReturnPosition>(
 }
 
 /// How a return uses definitions.
-pub fn return_uses<P: ReturnPosition>(
+pub fn return_usages<P: ReturnPosition>(
     alloc: Global,
     output: &ReturnType<P>,
 ) -> Result<Vec<Use<'_>>, NoMemory>
-    ensures { IfOk result (λ uses. all_used uses ≡ return_uses
-        (type_uses P.IN_OUT_STATUS P.OpaqueOwnership.borrow_of P.StructPath.id_of P.of_callback)
-        (optioned_uses P.IN_OUT_STATUS P.OpaqueOwnership.borrow_of P.StructPath.id_of
+    ensures { IfOk result (λ uses. all_used uses ≡ return_usages
+        (type_usages P.IN_OUT_STATUS P.OpaqueOwnership.borrow_of P.StructPath.id_of P.of_callback)
+        (optioned_usages P.IN_OUT_STATUS P.OpaqueOwnership.borrow_of P.StructPath.id_of
         P.of_callback) P.StructPath.id_of P.result_of output.now) }
 {
     let mut uses = Vec::new(alloc);

@@ -3,7 +3,7 @@
 ghost use Rattle.std.specs.Prelude.{◌≡◌, ◌++◌, IfOk, OnOk, option_map};
 ghost use Rattle.hir_types.specs.Types.{type_id};
 ghost use Rattle.hir_usage.specs.Seen.{all_used, id_lent};
-ghost use Rattle.hir_usage.specs.Types.{opaque_uses, slice_uses, type_uses, uses_within};
+ghost use Rattle.hir_usage.specs.Types.{opaque_usages, slice_usages, type_usages, uses_within};
 ghost use Rattle.hir_usage.specs.Uses.{is_optioned, optioned_where};
 
 use crate::positions::PositionUses;
@@ -47,7 +47,7 @@ fn add_opaque<'a, Owner: OpaqueOwner>(
     path: &'a OpaquePath<Optional, Owner>,
 ) -> Result<(), NoMemory>
     ensures { OnOk result (all_used uses.new
-        ≡ all_used uses.old ++ opaque_uses status Owner.borrow_of path.now) }
+        ≡ all_used uses.old ++ opaque_usages status Owner.borrow_of path.now) }
 {
     let in_option = is_optioned(status, path.is_optional(), path.is_owned());
     add_optioned(uses, in_option, LentId::Opaque(&path.tcx_id))
@@ -59,7 +59,7 @@ fn add_slice<'a, P: PositionUses>(
     slice: &'a Slice<P>,
 ) -> Result<(), NoMemory>
     ensures { OnOk result (all_used uses.new
-        ≡ all_used uses.old ++ slice_uses P.IN_OUT_STATUS P.StructPath.id_of slice.now) }
+        ≡ all_used uses.old ++ slice_usages P.IN_OUT_STATUS P.StructPath.id_of slice.now) }
 {
     match slice {
         Slice::Str(_, _) | Slice::Primitive(_, _) | Slice::Strs(_) => {}
@@ -110,8 +110,11 @@ pub(crate) fn definition_of<P: PositionUses>(ty: &HirType<P>) -> Option<LentId<'
 }
 
 /// How a type at a position uses definitions.
-pub fn type_uses<P: PositionUses>(alloc: Global, ty: &HirType<P>) -> Result<Vec<Use<'_>>, NoMemory>
-    ensures { IfOk result (λ uses. all_used uses ≡ type_uses P.IN_OUT_STATUS
+pub fn type_usages<P: PositionUses>(
+    alloc: Global,
+    ty: &HirType<P>,
+) -> Result<Vec<Use<'_>>, NoMemory>
+    ensures { IfOk result (λ uses. all_used uses ≡ type_usages P.IN_OUT_STATUS
         P.OpaqueOwnership.borrow_of P.StructPath.id_of P.of_callback ty.now) }
 {
     let mut uses = Vec::new(alloc);
