@@ -1,0 +1,4 @@
+pub mod Errors
+pub mod Stages
+pub mod Lowered
+pub mod inside
