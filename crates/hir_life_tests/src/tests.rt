@@ -6,6 +6,7 @@ ghost use Rattle.hir_life.specs.declared.maybe_static.MaybeStatic.TheVariants.{N
 mod agree;
 mod counted;
 mod declared;
+mod explaining;
 mod plain;
 mod sound;
 
