@@ -1,2 +1,2 @@
 pub mod NameLemmas
-pub mod StoreLemmas
+pub mod Stores

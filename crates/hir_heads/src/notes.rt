@@ -23,7 +23,7 @@ pub struct Notes {
 /// The marks of a declaration, which start from those of its parent, and its documents. What the
 /// marks break is told, and then the faults of the documents' conditions, in order. `NoMemory`
 /// where there is no memory for them or for the reports.
-#[tactic(auto, using(hir_reports::proofs::StoreLaws::added_more, crate::proofs::StoreLemmas::added_keeps))]
+#[tactic(auto, using(crate::proofs::Stores::told_both, crate::proofs::Stores::added_keeps))]
 pub fn lower_notes<V: AttributeValidator>(
     alloc: Global,
     docs: &bridge_decl::Docs,

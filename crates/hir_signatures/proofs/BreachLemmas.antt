@@ -2,7 +2,7 @@
 use Rattle.std.proofs.Common.{◌≡◌, List, [], ◌∷◌, map, sym, ap}
 use Rattle.std.proofs.lemmas.Simd.{map-map}
 use Rattle.hir_number.specs.declared.breach.Breach.{Breach}
-use Rattle.hir_number.specs.Breaches.{Broken, broken}
+use Rattle.hir_number.specs.Breaches.{broken}
 use Rattle.hir_reports.specs.Store.{Held, added}
 use Rattle.hir_signatures.specs.Errors.{breach_error}
 

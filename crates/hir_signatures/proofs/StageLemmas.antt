@@ -15,7 +15,7 @@ use Rattle.hir_reports.proofs.StoreLaws.{added_nothing}
 use Rattle.hir_reports.specs.Store.{Held, added}
 use Rattle.hir_signatures.specs.declared.signatures.SignatureTypes.{SignatureTypes}
 use Rattle.hir_signatures.specs.Errors.{breach_error}
-use Rattle.hir_signatures.specs.Stages.{Stage, Breached, Misnamed, Unnumbered, Judged, ComesTo, IsLowered, IsMade, stage_errors}
+use Rattle.hir_signatures.specs.Stages.{Misnamed, ComesTo, IsLowered, IsMade, stage_errors}
 use Rattle.hir_signatures.specs.inside.Numbering.{stage_of}
 
 -- where there are no breaches, nothing is told of them
@@ -27,13 +27,6 @@ pub untouched : (b : Bool) (breaches : List Broken) (old new : Held) → MatchBo
     → new ≡ added old (map breach_error breaches) → MatchBool b (new ≡ old) ⊤
 untouched true breaches old new none told = unbreached breaches old new none told
 untouched false breaches old new some told = tt
-
--- breaches alone
-pub breached : (breaches : List Broken) (declared : LifetimeEnv) (numbers : Result NumberLists NumberFault) (IsIt : NumberedSignature → Type 0)
-    (faults : NumberedSignature → List TypeFault) (form : NumberedSignature → Option SignatureTypes) (old new : Held)
-    → breaches ≢ [] → new ≡ added old (map breach_error breaches)
-    → IsLowered breaches (ComesTo breaches declared numbers IsIt) faults form old new None
-breached breaches declared numbers IsIt faults form old new some told = record { stage = Breached; comes = some; told = told; made = refl }
 
 -- none, and a name that is no identifier
 pub misnamed : (breaches : List Broken) (declared : LifetimeEnv) (numbers : Result NumberLists NumberFault) (IsIt : NumberedSignature → Type 0)

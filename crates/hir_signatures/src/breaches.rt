@@ -83,8 +83,8 @@ fn push_each(
     breaches: &[Breach<'_>],
     errors: &mut ErrorStore<'_>,
 ) -> Result<(), NoMemory>
-    ensures ok { OnOk result
-        (errors.new ≡ added errors.old (map (λ b. breach_error (broken b)) breaches.entry.now)) }
+    ensures ok { OnOk result (errors.new
+        ≡ added errors.old (map (λ b. breach_error (broken b)) breaches.entry.now)) }
     ensures reports { OnErr result
         (take (length errors.old.reports) errors.new.reports ≡ errors.old.reports) }
     ensures place { OnErr result (errors.new.place ≡ errors.old.place) }

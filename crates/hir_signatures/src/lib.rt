@@ -39,8 +39,9 @@
 //!
 //! # Reports
 //!
-//! A breach is a report of the rule of its name ([`breach_error`]). A path is its argument as it is written, without lifetimes, with
-//! `::` between its segments; a lifetime is, without the apostrophe. A fault of numbers has no argument ([`tell_number_fault`]).
+//! A breach is a report of the rule of its name ([`breach_error`]). Its argument is the path as it is written, without lifetimes and with
+//! `::` between its segments, or the name of the lifetime, without the apostrophe. A fault of numbers has no argument
+//! ([`tell_number_fault`]).
 //!
 //! As in the crate `diplomat_core`, module `hir::lowering`, where one walk through a signature does all of this, and ends a type at its
 //! first fault.

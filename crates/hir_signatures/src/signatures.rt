@@ -34,8 +34,8 @@ use std::alloc::Global;
 pub struct SignatureTypes {
     /// The receiver, the parameters and what is returned or written.
     pub types: LoweredSignature,
-    /// The declared lifetimes, with the count of all: those that are left out in the signature come
-    /// after them.
+    /// The declared lifetimes, with the count of all: what the signature leaves out comes after
+    /// the declared ones.
     pub lifetimes: LifetimeEnv,
 }
 
@@ -118,12 +118,12 @@ fn test_method(
 }
 
 /// The types of a method of the type there, with what its trailing writer takes, where it has one.
-/// None where something is wrong with them. First each breach of its paths and lifetimes is told,
-/// and where there is any, nothing else of its types. Else it is told why a lifetime has no number;
-/// else the faults of the types where they stand. Where the name of a declared lifetime is no
-/// identifier, breaches alone are told. `NoMemory` where there is no memory for it or for the
-/// reports: then the store holds what it held.
-#[tactic(auto, using(crate::proofs::StageLemmas::breached, crate::proofs::StageLemmas::misnamed, crate::proofs::StageLemmas::numbered))]
+/// None where something is wrong with them. First each breach of its paths and lifetimes is told;
+/// where there is any, nothing else of its types is. Else it is told why a lifetime has no number,
+/// and else each fault of the types where they stand. Where the name of a declared lifetime is no
+/// identifier, breaches alone are told, and nothing is made. `NoMemory` where there is no memory
+/// for it or for the reports: then the store holds what it held.
+#[tactic(auto, using(crate::proofs::StageLemmas::misnamed, crate::proofs::StageLemmas::numbered))]
 pub fn lower_method_signature(
     alloc: Global,
     env: &Env,
@@ -178,7 +178,7 @@ fn test_function(
 }
 
 /// The types of a function outside types; else as [`lower_method_signature`].
-#[tactic(auto, using(crate::proofs::StageLemmas::breached, crate::proofs::StageLemmas::misnamed, crate::proofs::StageLemmas::numbered))]
+#[tactic(auto, using(crate::proofs::StageLemmas::misnamed, crate::proofs::StageLemmas::numbered))]
 pub fn lower_function_signature(
     alloc: Global,
     env: &Env,

@@ -1,4 +1,3 @@
-use Rattle.std.proofs.Common.{[], ap}
 use Rattle.bridge_decl.specs.declared.lifetimes.LifetimeNode.{LifetimeNode}
 use Rattle.hir_reports.proofs.StoreLaws.{added_nothing, added_step}
 use Rattle.hir_heads.specs.Names.{name_errors}
