@@ -127,7 +127,8 @@ pub struct TypeContext {
 }
 
 impl TypeContext {
-    /// The context of these parts. `Unfit` comes exactly where something in them doesn't fit.
+    /// The context of these parts, which fit. `Unfit` tells something in them that doesn't fit, and
+    /// `NoMemory` that there was no memory.
     pub fn new(alloc: Global, parts: ContextParts) -> Result<TypeContext, ContextFault>
         ensures kept { IfOk result (λ tcx. AreDefinitions parts tcx.definitions) }
         ensures fits { IfOk result (λ tcx. AllFit tcx.definitions) }

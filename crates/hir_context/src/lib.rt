@@ -16,8 +16,8 @@
 //!
 //! It has one opaque and two structs: the ids of `Line` and `Rest` are the structs 0 and 1.
 //!
-//! [`TypeContext::new`] takes the parts, copies nothing, and answers with a context exactly where
-//! they fit (`specs/Fitness`):
+//! [`TypeContext::new`] takes the parts, copies nothing, and answers with a context only where they
+//! fit (`specs/Fitness`):
 //! - each id that a definition names is one of a definition: `Line` names the opaque 0 and the
 //!   struct 1;
 //! - each path has as many lifetimes as the definition that it names: one;
@@ -49,5 +49,4 @@ mod lookups;
 mod parts;
 
 pub use context::{ContextFault, TypeContext};
-pub use fitting::{Definition, StructPosition};
 pub use parts::{ContextParts, Definitions, Listed, Placed};
