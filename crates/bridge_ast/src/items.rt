@@ -129,7 +129,8 @@ fn test_item(
 ) -> Result<(), EnvFault>
     ensures told { (before : List Named) → HasMeanings names.old before
         → Tells result (repeats_name EnvFaultKind.DuplicateItem «module» before
-        (item_name item.now) (part.Item number) ++ (lifetime_faults «module» number None (nodes_of item.now)
+        (item_name item.now) (part.Item number)
+        ++ (lifetime_faults «module» number None (nodes_of item.now)
         ++ each (method_faults «module» number) (method_nodes_of item.now))) }
     ensures kept { (before : List Named) → HasMeanings names.old before
         → OnOk result

@@ -15,7 +15,7 @@ pub fn callbacks_come_in()
     ensures everywhere { (cb : Callback)
         → ⟦<Everywhere as PositionTypes>⟧.callback_here cb ≡ None }
     ensures output { (cb : Callback) → ⟦<OutputOnly as PositionTypes>⟧.callback_here cb ≡ None }
-    ensures callback_return { (cb : Callback)
+    ensures returned_by_callback { (cb : Callback)
         → ⟦<CallbackReturn as PositionTypes>⟧.callback_here cb ≡ None }
 {}
 
@@ -23,7 +23,7 @@ pub fn callbacks_come_in()
 pub fn traits_come_in()
     ensures input { (path : TraitPath)
         → ⟦<InputOnly as PositionTypes>⟧.trait_path_here path ≡ Some path }
-    ensures callback_return { (path : TraitPath)
+    ensures returned_by_callback { (path : TraitPath)
         → ⟦<CallbackReturn as PositionTypes>⟧.trait_path_here path ≡ Some path }
     ensures everywhere { (path : TraitPath)
         → ⟦<Everywhere as PositionTypes>⟧.trait_path_here path ≡ None }
@@ -36,5 +36,6 @@ pub fn statuses()
     ensures everywhere { ⟦<Everywhere as TyPosition>⟧.IN_OUT_STATUS ≡ InputOrOutput.InputOutput }
     ensures input { ⟦<InputOnly as TyPosition>⟧.IN_OUT_STATUS ≡ InputOrOutput.Input }
     ensures output { ⟦<OutputOnly as TyPosition>⟧.IN_OUT_STATUS ≡ InputOrOutput.Output }
-    ensures callback_return { ⟦<CallbackReturn as TyPosition>⟧.IN_OUT_STATUS ≡ InputOrOutput.Input }
+    ensures returned_by_callback { ⟦<CallbackReturn as TyPosition>⟧.IN_OUT_STATUS
+        ≡ InputOrOutput.Input }
 {}
