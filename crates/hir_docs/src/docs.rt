@@ -112,6 +112,13 @@ fn read_docs<V: AttributeValidator>(
 }
 
 impl Docs {
+    /// The documents of these lines and links.
+    pub fn new(lines: Text, links: Items<RustLink>) -> Docs
+        ensures { result ≡ record { lines = lines; links = links } }
+    {
+        Docs { lines, links }
+    }
+
     /// The documents for a backend: the lines of the blocks whose condition is met, in order, with a line feed between two where text
     /// stands before, and all links. `auto` isn't allowed in a condition. It tells each condition with a fault, in order, and nothing
     /// else. As `Docs::from_ast` of `diplomat_core`.
