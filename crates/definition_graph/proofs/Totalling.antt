@@ -17,7 +17,7 @@ module _ (g : List (List ℕ)) where
   chain_on a b (m ∷ first) rest h chain = (h.0, chain_on m b first rest h.1 chain)
 
   -- from a node that reaches itself chains are as long as one likes
-  cycle_long : (r : ℕ) → ReachesByEdges g r r → (n : ℕ) → (rest : List ℕ) × IsChain g r rest × (n ≤ length rest)
+  pub cycle_long : (r : ℕ) → ReachesByEdges g r r → (n : ℕ) → (rest : List ℕ) × IsChain g r rest × (n ≤ length rest)
   cycle_long r cycle zero = ([], tt, omega arith)
   cycle_long r cycle (suc n) =
       let more = cycle_long r cycle n in (

@@ -7,7 +7,7 @@ use Rattle.std.specs.Prelude.{slice_index_or}
 use Rattle.std.specs.List.{Contains}
 use Rattle.definition_graph.specs.Reaching.{ReachesByEdges}
 use Rattle.definition_graph.specs.Surveying.{AreDepths, FlagsReachingItself, IsChain, IsDepth, IsLongestChain}
-use Rattle.definition_graph.proofs.Totalling.{longest_no_cycle}
+use Rattle.definition_graph.proofs.Totalling.{cycle_long, longest_no_cycle}
 use Rattle.hir_nesting.specs.declared.fault.NestingFault.{NestingFault}
 use Rattle.hir_nesting.specs.declared.fault.NestingFault.TheVariants as fault
 use Rattle.hir_nesting.specs.Faults.{AllNestWell, AreNestingFaults, HasFault, TellsNesting}
@@ -72,3 +72,13 @@ all_told g depths faults n are count each told =
       right = right;
       well = λ none. all_well g depths are (λ a within. subst (TellsNesting g a) (none a within) (right a within));
     }
+
+-- where all nest well, a struct that contains itself would be in a chain of any length
+pub no_fault : (g : List (List ℕ)) (a : ℕ) (f : NestingFault) → AllNestWell g → a < length g → HasFault g a f → ⊥
+no_fault g a fault.ContainsItself well within cycle =
+    let long = cycle_long g a cycle 256 in
+    let few = well a long.0 within long.1 in
+    omega (arith, few, long.2)
+no_fault g a fault.NestsTooDeep well within (n, longest, more) =
+    let few = well a longest.rest within longest.chain in
+    omega (arith, few, longest.count, more)

@@ -44,7 +44,9 @@
 
 mod containment;
 mod fault;
+mod laws;
 mod nesting;
 
 pub use fault::NestingFault;
+pub use laws::what_nests_well_has_no_fault;
 pub use nesting::{MOST_LEVELS, nesting_faults, nesting_misfit};
