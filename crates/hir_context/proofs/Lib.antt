@@ -1,3 +1,5 @@
 pub mod Naming
 pub mod Parting
 pub mod Telling
+pub mod Places
+pub mod Types

@@ -8,7 +8,9 @@ use Rattle.hir_ids.specs.declared.ids.TypeId.TheVariants as type
 use Rattle.hir_fitting.specs.Parts.{DefinitionFits, DefinitionMisfits, Part, parts_of_enum, parts_of_function, parts_of_opaque, parts_of_trait}
 use Rattle.hir_fitting.specs.declared.census.Census.{Census}
 use Rattle.hir_fitting.specs.declared.definitions.Unfit.{Unfit}
+use Rattle.hir_fitting.proofs.Deciding.{definition_fits}
 use Rattle.hir_nesting.specs.Faults.{TellsMisfit}
+use Rattle.hir_nesting.proofs.Judging.{no_fault}
 use Rattle.hir_context.specs.Fitness.{AllFit, IsUnfit, Names, Nests, census_of, nesting_of, out_struct_parts, parts_at, plain_struct_parts}
 use Rattle.hir_context.specs.inside.Telling.{TellsNamed}
 use Rattle.hir_context.specs.inside.Telling.{TellsOfKind}
@@ -67,3 +69,9 @@ pub all_fit : (defs : Definitions) (named : Option Unfit) → TellsNamed defs na
     → TellsMisfit (nesting_of defs) (length defs.out_structs.defs) None → AllFit defs
 all_fit defs None named is nested = record { named = named; nested = nested }
 all_fit defs (Some unfit) named is nested = absurd cc
+
+-- what fits has nothing that doesn't
+pub none_unfit : (defs : Definitions) (unfit : Unfit) → AllFit defs → IsUnfit defs unfit → ⊥
+none_unfit defs unfit fit (Names parts at misfits) =
+    (definition_fits (census_of defs) unfit.holder parts).0 (fit.named unfit.holder parts at) unfit.named misfits
+none_unfit defs unfit fit (Nests number f within has holder named) = no_fault (nesting_of defs) number f fit.nested within has

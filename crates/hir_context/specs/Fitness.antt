@@ -6,7 +6,8 @@ use Rattle.hir_ids.specs.declared.ids.SymbolId.TheVariants as symbol
 use Rattle.hir_ids.specs.declared.ids.TypeId.TheVariants as type
 use Rattle.hir_types.specs.Paths.{returnable_id}
 use Rattle.hir_mentions.specs.Types.{returnable_mentions, struct_path_mentions, type_mentions}
-use Rattle.hir_fitting.specs.Parts.{Part, DefinitionFits, DefinitionMisfits, parts_of_enum, parts_of_function, parts_of_opaque, parts_of_struct, parts_of_trait}
+use Rattle.hir_definitions.specs.declared.methods.Method.{Method}
+use Rattle.hir_fitting.specs.Parts.{Part, DefinitionFits, DefinitionMisfits, PartFits, method_part, parts_of_enum, parts_of_function, parts_of_opaque, parts_of_struct, parts_of_trait}
 use Rattle.hir_fitting.specs.declared.census.Census.{Census}
 use Rattle.hir_fitting.specs.declared.definitions.Unfit.{Unfit}
 use Rattle.hir_nesting.specs.Faults.{AllNestWell, HasFault}
@@ -61,3 +62,7 @@ pub data IsUnfit (defs : Definitions) (unfit : Unfit) : Type 0 where
   Nests :
       (number : ℕ) (f : NestingFault) → number < length (nesting_of defs) → HasFault (nesting_of defs) number f
       → unfit.holder ≡ symbol.TypeId (struct_of_number (length defs.out_structs.defs) number) → unfit.named ≡ unfit.holder → IsUnfit defs unfit
+
+-- all that a method names is there
+abbrev pub MethodFits : Definitions → Method → Type 0
+MethodFits defs m = PartFits (census_of defs) (method_part m)

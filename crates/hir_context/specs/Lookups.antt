@@ -1,12 +1,45 @@
 -- What stands in a context.
-use Rattle.std.specs.Prelude.{◌≡◌, ◌<◌, ℕ, List, Option, Some, length, option_map, slice_get}
+use Rattle.std.specs.Prelude.{◌<◌, ℕ, List, Option, None, length, option_map, slice_get}
+use Rattle.hir_life.specs.Environment.{Environment}
 use Rattle.hir_ids.specs.declared.ids.SymbolId.{SymbolId}
 use Rattle.hir_ids.specs.declared.ids.SymbolId.TheVariants as symbol
 use Rattle.hir_ids.specs.declared.ids.TypeId.{TypeId}
 use Rattle.hir_ids.specs.declared.ids.TypeId.TheVariants as type
+use Rattle.hir_ids.specs.declared.owners.Borrow.{Borrow}
+use Rattle.hir_ids.specs.declared.owners.MaybeOwn.{MaybeOwn}
+use Rattle.hir_types.specs.declared.callbacks.NoCallback.{NoCallback}
+use Rattle.hir_types.specs.declared.paths.NoTraitPath.{NoTraitPath}
+use Rattle.hir_types.specs.declared.paths.ReturnableStructPath.{ReturnableStructPath}
+use Rattle.hir_types.specs.declared.paths.StructPath.{StructPath}
+use Rattle.hir_types.specs.declared.positions.Everywhere.{Everywhere}
+use Rattle.hir_types.specs.declared.positions.OutputOnly.{OutputOnly}
+use Rattle.hir_definitions.specs.declared.definitions.EnumDef.{EnumDef}
+use Rattle.hir_definitions.specs.declared.definitions.OpaqueDef.{OpaqueDef}
+use Rattle.hir_definitions.specs.declared.definitions.StructDef.{StructDef}
 use Rattle.hir_definitions.specs.declared.type_defs.TypeDef.{TypeDef}
-use Rattle.hir_definitions.specs.declared.type_defs.TypeDef.TheVariants as defined
+use Rattle.hir_definitions.specs.declared.type_defs.TypeDef.TheVariants as lent
 use Rattle.hir_context.specs.declared.parts.Definitions.{Definitions}
+
+-- a struct that may stand in inputs, and one that only goes out
+abbrev pub InputStruct : Type 0
+InputStruct = StructDef Everywhere NoCallback Borrow ℕ StructPath NoTraitPath
+
+abbrev pub OutputStruct : Type 0
+OutputStruct = StructDef OutputOnly NoCallback MaybeOwn ℕ ReturnableStructPath NoTraitPath
+
+-- the definition of a type
+pub data DefinedType : Type 0 where
+  Struct : InputStruct → DefinedType
+  OutStruct : OutputStruct → DefinedType
+  Opaque : OpaqueDef → DefinedType
+  Enum : EnumDef → DefinedType
+
+-- that which is lent
+abbrev pub lent_type : TypeDef → DefinedType
+lent_type (lent.Struct def) = Struct def.now
+lent_type (lent.OutStruct def) = OutStruct def.now
+lent_type (lent.Opaque def) = Opaque def.now
+lent_type (lent.Enum def) = Enum def.now
 
 -- there is a definition of this id: its place is below how many there are of its kind
 abbrev pub IsIn : Definitions → SymbolId → Type 0
@@ -17,13 +50,19 @@ IsIn defs (symbol.TypeId (type.Enum place)) = place < length defs.enums.defs
 IsIn defs (symbol.TraitId place) = place < length defs.traits.defs
 IsIn defs (symbol.FunctionId place) = place < length defs.functions.defs
 
--- the type of this id, as it is lent
-abbrev pub IsTypeAt : Definitions → TypeId → TypeDef → Type 0
-IsTypeAt defs (type.OutStruct place) (defined.OutStruct def) = slice_get defs.out_structs.defs place ≡ Some def.now
-IsTypeAt defs (type.Struct place) (defined.Struct def) = slice_get defs.structs.defs place ≡ Some def.now
-IsTypeAt defs (type.Opaque place) (defined.Opaque def) = slice_get defs.opaques.defs place ≡ Some def.now
-IsTypeAt defs (type.Enum place) (defined.Enum def) = slice_get defs.enums.defs place ≡ Some def.now
-IsTypeAt defs _ _ = ⊥
+-- the type of this id, where there is one
+abbrev pub defined_at : Definitions → TypeId → Option DefinedType
+defined_at defs (type.OutStruct place) = option_map OutStruct (slice_get defs.out_structs.defs place)
+defined_at defs (type.Struct place) = option_map Struct (slice_get defs.structs.defs place)
+defined_at defs (type.Opaque place) = option_map Opaque (slice_get defs.opaques.defs place)
+defined_at defs (type.Enum place) = option_map Enum (slice_get defs.enums.defs place)
+
+-- its lifetimes: an enum has no environment
+abbrev pub environment_at : Definitions → TypeId → Option Environment
+environment_at defs (type.OutStruct place) = option_map (λ def. def.lifetimes) (slice_get defs.out_structs.defs place)
+environment_at defs (type.Struct place) = option_map (λ def. def.lifetimes) (slice_get defs.structs.defs place)
+environment_at defs (type.Opaque place) = option_map (λ def. def.lifetimes) (slice_get defs.opaques.defs place)
+environment_at defs (type.Enum place) = None
 
 -- the path of the module of the definition of this id, where there is one
 abbrev pub module_path_at : Definitions → SymbolId → Option (List (List ℕ))

@@ -34,6 +34,7 @@
 //! | call | answer |
 //! |---|---|
 //! | `structs`, `opaques` and their kin | the definitions of a kind, in the order of their ids |
+//! | `all_types`, `all_traits`, `all_free_functions` | the definitions with their ids: `Line` with the struct 0, `Rest` with the struct 1, `Page` with the opaque 0 |
 //! | `contains_symbol` | whether there is a definition of an id |
 //! | `resolve_struct`, `resolve_opaque` and their kin | the definition of an id, which is there |
 //!
@@ -45,8 +46,12 @@
 
 mod context;
 mod fitting;
+mod iterating;
+mod laws;
 mod lookups;
 mod parts;
 
 pub use context::{ContextFault, TypeContext};
+pub use iterating::{AllFunctions, AllTraits, AllTypes};
+pub use laws::{ids_resolve_to_their_definitions, what_fits_has_nothing_unfit};
 pub use parts::{ContextParts, Definitions, Listed, Placed};

@@ -1,7 +1,7 @@
 //! What stands in a context, by kinds and by ids.
 
 ghost use Rattle.std.specs.Prelude.{◌≡◌, ◌<◌, ◌↔◌, IsTrue, Some, length, slice_get};
-ghost use Rattle.hir_context.specs.Lookups.{IsIn, IsTypeAt, module_path_at, name_at};
+ghost use Rattle.hir_context.specs.Lookups.{IsIn, defined_at, lent_type, module_path_at, name_at};
 ghost use Rattle.hir_ids.specs.declared.ids.SymbolId.TheVariants as symbol;
 
 use crate::context::TypeContext;
@@ -118,7 +118,7 @@ impl TypeContext {
     /// The type of this id, which is there.
     pub fn resolve_type(&self, id: TypeId) -> TypeDef<'_>
         requires { IsIn self.now.definitions (symbol.TypeId id) }
-        ensures { IsTypeAt self.now.definitions id result }
+        ensures { defined_at self.now.definitions id ≡ Some (lent_type result) }
     {
         match &id {
             TypeId::OutStruct(id) => TypeDef::OutStruct(self.resolve_out_struct(*id)),
