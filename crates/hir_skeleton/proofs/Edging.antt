@@ -1,11 +1,10 @@
 -- The edges of a struct, and all edges followed down.
-use Rattle.std.proofs.Common.{◌≡◌, ◌⊎◌, ◌↔◌, inl, inr, ℕ, zero, suc, ◌≤◌, ◌+◌, Bool, true, false, true≢false, cond, List, [], ◌∷◌, length, map, Option, Some, None, slice_get, refl, sym, ap, ◌∙◌, subst, arith}
+use Rattle.std.proofs.Common.{◌≡◌, ◌↔◌, inl, inr, ℕ, zero, suc, ◌≤◌, ◌+◌, Bool, true, false, true≢false, cond, List, [], ◌∷◌, length, Some, None, refl, sym, ap, ◌∙◌, subst, arith}
 use Rattle.std.specs.List.{Contains, filter_map, cons_option, list_any, enumerate_from}
 use Rattle.hir_life.specs.Substitution.{identity}
 use Rattle.hir_life.specs.declared.maybe_static.MaybeStatic.{MaybeStatic}
-use Rattle.hir_life.specs.declared.maybe_static.MaybeStatic.TheVariants.{Static, NonStatic}
 use Rattle.hir_skeleton.specs.Skeletons.{HasLifetimesBelow, Skeleton, Nothing, Carrier, Struct}
-use Rattle.hir_skeleton.specs.Leaves.{number_passes, deep_leaves, struct_leaves, listed_paths, through}
+use Rattle.hir_skeleton.specs.Leaves.{number_passes, deep_leaves, listed_paths, through}
 use Rattle.hir_skeleton.specs.Edges.{ShallowEdge, Whole, Position, edge_at, shallow_edges, LeadsDown, Unfolds}
 use Rattle.hir_skeleton.proofs.Members.{none_in_nothing, first_is_there, later_is_there, member_cases}
 use Rattle.hir_skeleton.proofs.Nesting.{type_paths, struct_paths, lists, lists_in}

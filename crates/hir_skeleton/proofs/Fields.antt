@@ -1,11 +1,11 @@
 -- What fields give, put together.
-use Rattle.std.proofs.Common.{◌≡◌, ◌⊎◌, inl, inr, ℕ, zero, suc, ◌<◌, ◌+◌, Bool, true, false, cond, List, [], ◌∷◌, ◌++◌, length, map, Some, None, slice_get, refl, sym, ap, ◌∙◌, subst, arith, add-zero}
-use Rattle.std.specs.List.{Contains, flat_map, filter, list_any, enumerate_from}
+use Rattle.std.proofs.Common.{◌≡◌, inl, inr, ℕ, zero, suc, ◌+◌, Bool, true, false, cond, List, [], ◌∷◌, ◌++◌, map, Some, slice_get, refl, sym, ap, ◌∙◌, subst, arith}
+use Rattle.std.specs.List.{Contains, flat_map, filter, enumerate_from}
 use Rattle.std.proofs.lemmas.List.{map-append}
 use Rattle.std.proofs.lemmas.List.Elements.{Contains-append_left, Contains-append_right, Contains-append_cases, filter-append}
 use Rattle.hir_skeleton.specs.Skeletons.{Skeleton}
-use Rattle.hir_skeleton.specs.Leaves.{DeepLeaf, in_field, from_fields, number_passes, leaf_passes, listed_paths}
-use Rattle.hir_skeleton.proofs.Members.{none_in_nothing, first_is_there, later_is_there, member_cases, mapped_is_there, mapped_from}
+use Rattle.hir_skeleton.specs.Leaves.{DeepLeaf, in_field, leaf_passes, listed_paths}
+use Rattle.hir_skeleton.proofs.Members.{none_in_nothing, mapped_is_there, mapped_from}
 use Rattle.std.proofs.lemmas.Option.{none-some, same_Some}
 
 -- fields from the number m on

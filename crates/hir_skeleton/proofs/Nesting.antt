@@ -1,11 +1,11 @@
 -- Leaves under arguments that are substituted, and lists as tests of definitions.
-use Rattle.std.proofs.Common.{◌≡◌, ℕ, zero, suc, ◌+◌, Bool, true, false, cond, List, [], ◌∷◌, ◌++◌, map, length, refl, sym, ap, ◌∙◌, arith}
-use Rattle.std.specs.List.{flat_map, filter, list_any, enumerate_from}
+use Rattle.std.proofs.Common.{◌≡◌, ℕ, zero, suc, ◌+◌, Bool, true, false, cond, List, [], ◌∷◌, ◌++◌, map, refl, sym, ap, ◌∙◌}
+use Rattle.std.specs.List.{list_any}
 use Rattle.std.proofs.lemmas.List.{map-append}
 use Rattle.hir_life.specs.Substitution.{subst, subst_each}
 use Rattle.hir_life.specs.declared.maybe_static.MaybeStatic.{MaybeStatic}
 use Rattle.hir_skeleton.specs.Skeletons.{Skeleton, Nothing, Carrier, Struct}
-use Rattle.hir_skeleton.specs.Leaves.{DeepLeaf, each_once, given_leaf, in_field, from_fields, type_leaves, struct_leaves, number_passes, leaf_passes, listed_paths, through}
+use Rattle.hir_skeleton.specs.Leaves.{DeepLeaf, each_once, given_leaf, in_field, type_leaves, struct_leaves, number_passes, listed_paths, through}
 use Rattle.hir_skeleton.proofs.Passing.{through_twice, each_through, any_through}
 use Rattle.hir_skeleton.proofs.Once.{any_once, once_mapped}
 use Rattle.hir_skeleton.proofs.Fields.{fields_from, listed_fields}

@@ -3,7 +3,7 @@ use Rattle.std.proofs.Common.{◌≡◌, ℕ, ◌<◌, ◌+◌, Bool, cond, ◌|
 use Rattle.std.specs.List.{range_with_len, list_any, filter_map, cons_option, enumerate_from}
 use Rattle.std.proofs.lemmas.List.Elements.{All-head, All-tail}
 use Rattle.std.proofs.lemmas.List.FromFn.{get_or-map-range_with_len, length-map-range_with_len}
-use Rattle.hir_life.specs.Substitution.{subst, subst_each, identity, IsBelow, AreBelow}
+use Rattle.hir_life.specs.Substitution.{subst_each, identity, IsBelow, AreBelow}
 use Rattle.hir_life.specs.declared.maybe_static.MaybeStatic.{MaybeStatic}
 use Rattle.hir_life.specs.declared.maybe_static.MaybeStatic.TheVariants.{Static, NonStatic}
 use Rattle.hir_skeleton.specs.Skeletons.{Skeleton, Nothing, Carrier, Struct, HasLifetimesBelow}

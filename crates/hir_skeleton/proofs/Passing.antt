@@ -1,5 +1,5 @@
 -- Tests of lifetimes through substitution.
-use Rattle.std.proofs.Common.{◌≡◌, ℕ, zero, suc, ◌<◌, ◌≤◌, ◌+◌, Bool, true, false, true≢false, List, [], ◌∷◌, map, get_or, Some, None, slice_get, refl, sym, ap, ◌∙◌, subst as transport, arith, inl, inr, ◌||◌}
+use Rattle.std.proofs.Common.{◌≡◌, ℕ, zero, suc, Bool, true, false, true≢false, List, [], ◌∷◌, Some, slice_get, refl, sym, ap, ◌∙◌, inl, inr, ◌||◌}
 use Rattle.std.specs.List.{Contains, list_any}
 use Rattle.hir_life.specs.Substitution.{subst, subst_each}
 use Rattle.hir_life.proofs.Substituting.{subst_through}

@@ -1,5 +1,5 @@
 -- Skeletons of what stands at more than one position, and of disabled structs.
-use Rattle.std.proofs.Common.{◌≡◌, ℕ, zero, suc, Bool, true, false, cond, List, [], ◌∷◌, Some, None, slice_get, map, refl, sym, ap, ◌∙◌, subst}
+use Rattle.std.proofs.Common.{◌≡◌, ℕ, zero, suc, Bool, true, false, cond, List, [], ◌∷◌, Some, slice_get, refl, sym, ap, subst}
 use Rattle.std.proofs.lemmas.Option.{none-some}
 use Rattle.hir_life.specs.declared.maybe_static.MaybeStatic.{MaybeStatic}
 use Rattle.hir_ids.specs.declared.ids.TypeId.{TypeId}
@@ -17,7 +17,8 @@ use Rattle.hir_types.specs.declared.self_types.SelfType.TheVariants as receiver
 use Rattle.hir_skeleton.specs.Skeletons.{Skeleton, Struct}
 use Rattle.hir_skeleton.specs.Leaves.{deep_leaves, in_field, from_fields, type_leaves, struct_leaves}
 use Rattle.hir_skeleton.specs.Edges.{LeadsDown}
-use Rattle.hir_skeleton.specs.Lowered.{InputStruct, field_skeleton, input_fields, receiver_skeleton, skeleton_step}
+use Rattle.hir_context.specs.Lookups.{InputStruct}
+use Rattle.hir_skeleton.specs.Lowered.{field_skeleton, input_fields, receiver_skeleton, skeleton_step}
 
 -- from a field's type to its skeleton, from what is inside an option
 abbrev pub field_step : HirType-F Everywhere NoCallback Borrow ℕ StructPath NoTraitPath (Skeleton TypeId) → Skeleton TypeId

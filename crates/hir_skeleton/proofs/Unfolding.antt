@@ -1,15 +1,13 @@
 -- The shallow edges, followed down, are the lists.
-use Rattle.std.proofs.Common.{◌≡◌, ◌⊎◌, ◌↔◌, inl, inr, ℕ, zero, suc, ◌≤◌, ◌+◌, Bool, true, false, true≢false, cond, List, [], ◌∷◌, length, map, Option, Some, None, slice_get, refl, sym, ap, ◌∙◌, subst, arith}
-use Rattle.std.specs.List.{Contains, filter_map, list_any, enumerate_from}
-use Rattle.hir_life.specs.declared.maybe_static.MaybeStatic.{MaybeStatic}
-use Rattle.hir_life.specs.declared.maybe_static.MaybeStatic.TheVariants.{Static, NonStatic}
+use Rattle.std.proofs.Common.{◌≡◌, ◌↔◌, inl, inr, ℕ, zero, suc, ◌≤◌, ◌+◌, Bool, true, false, true≢false, cond, List, [], ◌∷◌, length, refl, sym, ap, ◌∙◌, subst, arith}
+use Rattle.std.specs.List.{Contains, list_any}
 use Rattle.hir_skeleton.specs.Skeletons.{Skeleton, Nothing, Carrier, Struct}
-use Rattle.hir_skeleton.specs.Leaves.{number_passes, struct_leaves, type_leaves, deep_leaves, listed_paths, through}
-use Rattle.hir_skeleton.specs.Edges.{ShallowEdge, Whole, Position, edge_at, shallow_edges, LeadsWithin, LeadsDown, Unfolds}
-use Rattle.hir_skeleton.proofs.Members.{none_in_nothing, first_is_there, later_is_there, member_cases}
+use Rattle.hir_skeleton.specs.Leaves.{number_passes, through}
+use Rattle.hir_skeleton.specs.Edges.{ShallowEdge, Whole, LeadsWithin, LeadsDown}
+use Rattle.hir_skeleton.proofs.Members.{none_in_nothing, first_is_there, member_cases}
 use Rattle.hir_skeleton.proofs.Passing.{passing_number, some_passes, passing_argument, argument_passes}
 use Rattle.hir_skeleton.proofs.Fields.{FromField, path_of_field, field_gives}
-use Rattle.hir_skeleton.proofs.Nesting.{type_paths, struct_paths, lists, lists_in}
+use Rattle.hir_skeleton.proofs.Nesting.{type_paths, struct_paths, lists}
 
 -- a list of at most the empty path
 pub the_empty_path : (b : Bool) (path : List ℕ) → Contains (cond b ([] ∷ []) []) path → (b ≡ true) × (path ≡ [])

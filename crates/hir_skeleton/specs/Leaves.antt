@@ -1,6 +1,6 @@
 -- The parts of an input that carry lifetimes themselves, at any depth, and which of them a lifetime may be borrowed
 -- from. In the example of `Skeletons` the field `page` is the only one of `mark`: it carries 'a, and 'b.
-use Rattle.std.specs.Prelude.{◌≡◌, ℕ, zero, suc, List, [], ◌∷◌, ◌==◌, map, Bool, true, false, not, Decides}
+use Rattle.std.specs.Prelude.{ℕ, zero, suc, List, [], ◌∷◌, ◌==◌, map, Bool, true, false, not, Decides}
 use Rattle.std.specs.List.{flat_map, filter, list_any, enumerate_from}
 use Rattle.hir_life.specs.Outlives.{Outlives}
 use Rattle.hir_life.specs.Substitution.{identity, subst, subst_each}

@@ -2,3 +2,4 @@ pub mod Skeletons
 pub mod Leaves
 pub mod Edges
 pub mod Lowered
+pub mod Inputs

@@ -7,10 +7,6 @@ use Rattle.hir_ids.specs.declared.owners.Borrow.{Borrow}
 use Rattle.hir_ids.specs.declared.owners.MaybeOwn.{MaybeOwn}
 use Rattle.hir_types.specs.Slices.{at_most_one, lifetime_of, slice_own}
 use Rattle.hir_types.specs.SelfTypes.{FieldType}
-use Rattle.hir_types.specs.declared.callbacks.NoCallback.{NoCallback}
-use Rattle.hir_types.specs.declared.paths.NoTraitPath.{NoTraitPath}
-use Rattle.hir_types.specs.declared.paths.StructPath.{StructPath}
-use Rattle.hir_types.specs.declared.positions.Everywhere.{Everywhere}
 use Rattle.hir_types.specs.declared.self_types.SelfType.{SelfType}
 use Rattle.hir_types.specs.declared.self_types.SelfType.TheVariants as receiver
 use Rattle.hir_types.specs.declared.slices.Slice.{Slice}
@@ -18,6 +14,7 @@ use Rattle.hir_types.specs.declared.slices.Slice.TheVariants as slice
 use Rattle.hir_types.specs.declared.types.HirType.{HirType, fold-HirType}
 use Rattle.hir_types.specs.declared.types.HirType.TheOpen.{HirType-F}
 use Rattle.hir_definitions.specs.declared.definitions.StructDef.{StructDef}
+use Rattle.hir_context.specs.Lookups.{InputStruct}
 use Rattle.hir_skeleton.specs.Skeletons.{Skeleton, Nothing, Carrier, Struct}
 
 -- a carrier of these lifetimes; without any, nothing can be borrowed through it
@@ -68,10 +65,7 @@ module _ {P C O I S T : Type 0} (borrow : O → Option Borrow) (struct : S → T
 abbrev pub field_skeleton : FieldType → Skeleton TypeId
 field_skeleton = skeleton_of Some (λ path. type.Struct path.tcx_id) (λ path. path.lifetimes) (λ path. path.owner)
 
--- a struct that may stand in inputs
-abbrev pub InputStruct : Type 0
-InputStruct = StructDef Everywhere NoCallback Borrow ℕ StructPath NoTraitPath
-
+-- the fields of a struct that may stand in inputs
 abbrev pub input_fields : InputStruct → List (Skeleton TypeId)
 input_fields =
     fields_of_struct Some (λ path. type.Struct path.tcx_id) (λ path. path.lifetimes) (λ path. path.owner)
