@@ -1,0 +1,7 @@
+//! Contexts in a notation: what structs hold, and how many lifetimes all have.
+
+mod asked;
+mod fitting;
+mod made;
+mod nesting;
+mod paths;

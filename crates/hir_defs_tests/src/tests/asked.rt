@@ -1,0 +1,203 @@
+//! What is asked of a context with definitions of all kinds: two structs, and one of each other.
+
+use crate::tests::made::{
+    Of, add_opaque, add_struct, enumeration, function, in_root, interface, no_parts, out_struct,
+};
+use crate::tests::paths::{compare_links, compare_paths, compare_positions};
+use hir_context::{ContextParts, TypeContext};
+use hir_ids::{EnumId, FunctionId, OpaqueId, OutStructId, StructId, SymbolId, TraitId, TypeId};
+use std::alloc::Global;
+use std::process::Abort;
+use std::test::Fail;
+
+/// The structs `Line` and `Rest`, and the opaque `Page`, which has two lifetimes.
+fn add_types(alloc: Global, parts: &mut ContextParts) -> Result<(), Fail> {
+    add_struct(
+        alloc,
+        parts,
+        "Line",
+        2,
+        &[Of::Opaque(0, &[0, 1]), Of::Struct(1, &[])],
+    )?;
+    add_struct(alloc, parts, "Rest", 0, &[])?;
+    add_opaque(alloc, parts, 2, None)
+}
+
+/// The out-struct `Found`, the enum `Color`, and the trait `Sink`.
+fn add_others(alloc: Global, parts: &mut ContextParts) -> Result<(), Fail> {
+    parts
+        .out_structs
+        .push(in_root(alloc, out_struct(alloc, "Found", 1)?))?;
+    parts
+        .enums
+        .push(in_root(alloc, enumeration(alloc, "Color")?))?;
+    parts
+        .traits
+        .push(in_root(alloc, interface(alloc, "Sink")?))?;
+    Ok(())
+}
+
+/// A function of this name.
+fn add_function(alloc: Global, parts: &mut ContextParts, called: &str) -> Result<(), Fail> {
+    parts
+        .functions
+        .push(in_root(alloc, function(alloc, called)?))?;
+    Ok(())
+}
+
+/// All these, and the functions `find` and `read`.
+fn add_all(alloc: Global, parts: &mut ContextParts) -> Result<(), Fail> {
+    add_types(alloc, parts)?;
+    add_others(alloc, parts)?;
+    add_function(alloc, parts, "find")?;
+    add_function(alloc, parts, "read")
+}
+
+/// The context of these parts.
+fn made(alloc: Global, parts: ContextParts) -> Result<TypeContext, Fail> {
+    match TypeContext::new(alloc, parts) {
+        Ok(tcx) => Ok(tcx),
+        Err(_) => Err(Fail::from("there is no context")),
+    }
+}
+
+/// The context of all these.
+fn context(alloc: Global) -> Result<TypeContext, Fail> {
+    let mut parts = no_parts(alloc);
+    add_all(alloc, &mut parts)?;
+    made(alloc, parts)
+}
+
+/// The id of the type at a place among all.
+fn id_at(place: usize) -> TypeId {
+    match place {
+        0 => TypeId::Struct(StructId::new(0)),
+        1 => TypeId::Struct(StructId::new(1)),
+        2 => TypeId::OutStruct(OutStructId::new(0)),
+        3 => TypeId::Opaque(OpaqueId::new(0)),
+        _ => TypeId::Enum(EnumId::new(0)),
+    }
+}
+
+/// The name of that type.
+fn name_at(place: usize) -> &'static str {
+    match place {
+        0 => "Line",
+        1 => "Rest",
+        2 => "Found",
+        3 => "Page",
+        4 => "Color",
+        _ => "",
+    }
+}
+
+/// The name of the function at a place among all.
+fn function_at(place: usize) -> &'static str {
+    match place {
+        0 => "find",
+        1 => "read",
+        _ => "",
+    }
+}
+
+/// Whether both names are the same.
+fn is_called(name: &str, expected: &str) -> bool {
+    name == expected
+}
+
+/// Compares all types of the context with the table.
+fn compare_types(rt: &impl Abort, tcx: &TypeContext) {
+    let mut place: usize = 0;
+    for (id, def) in tcx.all_types() {
+        assert_eq!(rt; id, id_at(place));
+        assert!(rt; is_called(def.name().as_str(), name_at(place)));
+        place = place.wrapping_add(1);
+    }
+    assert_eq!(rt; place, 5);
+}
+
+/// Compares all functions of the context.
+fn compare_functions(rt: &impl Abort, tcx: &TypeContext) {
+    let mut place: usize = 0;
+    for (id, def) in tcx.all_free_functions() {
+        assert_eq!(rt; id, FunctionId::new(place));
+        assert!(rt; is_called(def.name.as_str(), function_at(place)));
+        place = place.wrapping_add(1);
+    }
+    assert_eq!(rt; place, 2);
+}
+
+/// Compares all traits of the context.
+fn compare_traits(rt: &impl Abort, tcx: &TypeContext) -> Result<(), Fail> {
+    let mut traits = tcx.all_traits();
+    match traits.next() {
+        Some((id, def)) => {
+            assert_eq!(rt; id, TraitId::new(0));
+            assert_eq!(rt; def.name.as_str(), "Sink");
+        }
+        None => return Err(Fail::from("there is a trait")),
+    }
+    assert!(rt; traits.next().is_none());
+    Ok(())
+}
+
+/// The name of the definition of an id, where there is one.
+fn name_of<'a>(tcx: &'a TypeContext, id: &SymbolId) -> Option<&'a str> {
+    if tcx.contains_symbol(*id) {
+        Some(tcx.fmt_symbol_name_diagnostics(*id))
+    } else {
+        None
+    }
+}
+
+/// Compares the names of ids with the table.
+fn compare_names(rt: &impl Abort, tcx: &TypeContext) {
+    let rows = [
+        (
+            SymbolId::TypeId(TypeId::Struct(StructId::new(1))),
+            Some("Rest"),
+        ),
+        (SymbolId::TypeId(TypeId::Struct(StructId::new(2))), None),
+        (
+            SymbolId::TypeId(TypeId::OutStruct(OutStructId::new(0))),
+            Some("Found"),
+        ),
+        (
+            SymbolId::TypeId(TypeId::OutStruct(OutStructId::new(1))),
+            None,
+        ),
+        (
+            SymbolId::TypeId(TypeId::Opaque(OpaqueId::new(0))),
+            Some("Page"),
+        ),
+        (
+            SymbolId::TypeId(TypeId::Enum(EnumId::new(0))),
+            Some("Color"),
+        ),
+        (SymbolId::TypeId(TypeId::Enum(EnumId::new(1))), None),
+        (SymbolId::TraitId(TraitId::new(0)), Some("Sink")),
+        (SymbolId::TraitId(TraitId::new(1)), None),
+        (SymbolId::FunctionId(FunctionId::new(1)), Some("read")),
+        (SymbolId::FunctionId(FunctionId::new(2)), None),
+    ];
+    for (id, expected) in &rows {
+        assert_eq!(rt; name_of(tcx, id), *expected);
+    }
+}
+
+/// Compares all that is asked of the context.
+fn compare_all(rt: &impl Abort, alloc: Global, tcx: &TypeContext) -> Result<(), Fail> {
+    compare_types(rt, tcx);
+    compare_functions(rt, tcx);
+    compare_traits(rt, tcx)?;
+    compare_names(rt, tcx);
+    compare_positions(rt, tcx)?;
+    compare_links(rt, alloc, tcx)?;
+    compare_paths(rt, alloc, tcx)
+}
+
+#[test]
+fn a_context_has_what_is_asked(rt: HostRuntime) -> Result<(), Fail> {
+    let tcx = context(rt.alloc())?;
+    compare_all(&rt, rt.alloc(), &tcx)
+}
