@@ -1,0 +1,5 @@
+pub mod InputFits
+pub mod NamedLeaves
+pub mod Calls
+pub mod VisitedLeaves
+pub mod inside

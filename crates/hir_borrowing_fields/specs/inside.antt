@@ -1,0 +1,5 @@
+pub mod Places
+pub mod Findings
+pub mod Carried
+pub mod TypeParts
+pub mod Walks
