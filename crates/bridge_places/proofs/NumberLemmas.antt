@@ -19,7 +19,7 @@ use Rattle.bridge_places.specs.Kinds.{item_kind, same_kind}
 use Rattle.bridge_order.specs.Order.{module_order, of_found, where_there}
 use Rattle.bridge_places.specs.Places.{of_kind, module_places, places_in, places_of}
 use Rattle.bridge_order.specs.Catalog.{entry_at, entry_in, id_of, module_entry}
-use Rattle.bridge_places.specs.Entries.{Describes, entry_of, has_fields, struct_entry}
+use Rattle.bridge_places.specs.Entries.{Describes, entry_of, has_fields, entry_of_struct}
 use Rattle.bridge_places.specs.inside.Numbering.{entries_from, no_places, with_module, with_modules, with_place, with_places}
 use Rattle.bridge_order.proofs.OrderLemmas.{all_ordered}
 
@@ -104,7 +104,7 @@ record Numbered (places : KindPlaces) (it : Item) (place : ItemPlace) (e : Entry
   is : e ≡ entry_of (id_of e) it
   number : slice_get (of_kind (item_kind it) places) (id_of e) ≡ Some place
 
-id_of_struct : (n : ℕ) (out fields : Bool) → id_of (struct_entry n out fields) ≡ n
+id_of_struct : (n : ℕ) (out fields : Bool) → id_of (entry_of_struct n out fields) ≡ n
 id_of_struct n true fields = refl
 id_of_struct n false fields = refl
 

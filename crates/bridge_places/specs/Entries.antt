@@ -19,13 +19,13 @@ has_fields [] = false
 has_fields (f ∷ fields) = true
 
 -- what is kept of a struct, which may be one that only comes out
-abbrev pub struct_entry : ℕ → Bool → Bool → Entry
-struct_entry id true has_some = entry.OutStruct id has_some
-struct_entry id false has_some = entry.Struct id has_some
+abbrev pub entry_of_struct : ℕ → Bool → Bool → Entry
+entry_of_struct id true has_some = entry.OutStruct id has_some
+entry_of_struct id false has_some = entry.Struct id has_some
 
 -- what is kept of an item with a number among those of its kind
 abbrev pub entry_of : ℕ → Item → Entry
-entry_of id (item.Struct s) = struct_entry id s.output_only (has_fields s.fields)
+entry_of id (item.Struct s) = entry_of_struct id s.output_only (has_fields s.fields)
 entry_of id (item.Opaque o) = entry.Opaque id o.mutability
 entry_of id (item.Enum e) = entry.Enum id
 entry_of id (item.Trait t) = entry.Trait id

@@ -1,7 +1,7 @@
 //! What is kept of items.
 
 ghost use Rattle.std.specs.Prelude.{◌≡◌};
-ghost use Rattle.bridge_places.specs.Entries.{entry_of, has_fields, struct_entry};
+ghost use Rattle.bridge_places.specs.Entries.{entry_of, has_fields, entry_of_struct};
 
 use bridge_ast::{Field, Item};
 use bridge_order::Entry;
@@ -12,8 +12,8 @@ fn has_fields(fields: &[Field]) -> bool
     !fields.is_empty()
 }
 
-fn struct_entry(id: usize, output_only: bool, has_fields: bool) -> Entry
-    ensures { result ≡ struct_entry id output_only has_fields }
+fn entry_of_struct(id: usize, output_only: bool, has_fields: bool) -> Entry
+    ensures { result ≡ entry_of_struct id output_only has_fields }
 {
     if output_only {
         Entry::OutStruct(id, has_fields)
@@ -28,7 +28,7 @@ pub fn entry_of(item: &Item, id: usize) -> Entry
 {
     match item {
         Item::Struct(item) => {
-            struct_entry(id, item.output_only, has_fields(item.fields.as_slice()))
+            entry_of_struct(id, item.output_only, has_fields(item.fields.as_slice()))
         }
         Item::Opaque(item) => Entry::Opaque(id, item.mutability),
         Item::Enum(_) => Entry::Enum(id),
