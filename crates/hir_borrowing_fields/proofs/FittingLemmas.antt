@@ -41,7 +41,7 @@ use Rattle.hir_skeleton.specs.Skeletons.{Skeleton, Nothing, Carrier, Struct}
 use Rattle.hir_context.specs.Lookups.{InputStruct}
 use Rattle.hir_skeleton.specs.Lowered.{carrier_of, field_skeleton, receiver_skeleton, skeleton_of, skeleton_step, slice_carries}
 use Rattle.hir_skeleton.specs.Inputs.{param_skeleton}
-use Rattle.hir_borrowing_fields.specs.InputFits.{FieldsFit, InputsFit, SkeletonFits}
+use Rattle.hir_borrowing_fields.specs.inside.InputFits.{FieldsFit, InputsFit, SkeletonFits}
 use Rattle.hir_borrowing_fields.specs.inside.Walks.{InputField}
 
 -- what holds of two lists in a row holds of each

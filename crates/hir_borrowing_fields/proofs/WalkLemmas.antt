@@ -19,7 +19,7 @@ use Rattle.hir_skeleton.specs.Inputs.{input_struct}
 use Rattle.hir_borrowing_fields.specs.NamedLeaves.{NamedLeaf}
 use Rattle.hir_borrowing_fields.specs.declared.walk.LeafWalk.{LeafWalk}
 use Rattle.hir_borrowing_fields.specs.inside.Findings.{Extends, Findings, FindsMore}
-use Rattle.hir_borrowing_fields.specs.InputFits.{FieldsFit, SkeletonFits, TakesSoMany}
+use Rattle.hir_borrowing_fields.specs.inside.InputFits.{FieldsFit, SkeletonFits, TakesSoMany}
 use Rattle.hir_borrowing_fields.specs.inside.Places.{names_at}
 use Rattle.hir_borrowing_fields.specs.inside.Walks.{GoesOn, InputField, NamedSkeleton, behind, leaves_of_each, named_fields_in, walked_struct, walked_type}
 use Rattle.hir_borrowing_fields.proofs.FindingLemmas.{extends_on, finds_on, names_stay}

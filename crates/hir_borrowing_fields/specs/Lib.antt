@@ -1,4 +1,3 @@
-pub mod InputFits
 pub mod NamedLeaves
 pub mod Calls
 pub mod VisitedLeaves

@@ -1,3 +1,4 @@
+pub mod InputFits
 pub mod Places
 pub mod Findings
 pub mod Carried

@@ -6,7 +6,7 @@ ghost use Rattle.hir_life.specs.Substitution.{identity};
 ghost use Rattle.hir_mentions.specs.Mentions.{where_any};
 ghost use Rattle.hir_skeleton.specs.Lowered.{receiver_skeleton};
 ghost use Rattle.hir_skeleton.specs.Inputs.{method_inputs, param_skeleton};
-ghost use Rattle.hir_borrowing_fields.specs.InputFits.{SkeletonFits};
+ghost use Rattle.hir_borrowing_fields.specs.inside.InputFits.{SkeletonFits};
 ghost use Rattle.hir_borrowing_fields.specs.NamedLeaves.{borrowing_leaves};
 ghost use Rattle.hir_borrowing_fields.specs.inside.Walks.{AreBare, GoesOn, behind, leaves_of_each, named_inputs, named_param, named_receiver, walked_type};
 

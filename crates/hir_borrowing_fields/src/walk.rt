@@ -7,7 +7,7 @@ ghost use Rattle.hir_ids.specs.declared.ids.TypeId.TheVariants as type;
 ghost use Rattle.hir_life.specs.Substitution.{AreBelow, subst_each};
 ghost use Rattle.hir_skeleton.specs.Skeletons.{Struct};
 ghost use Rattle.hir_skeleton.specs.Lowered.{carrier_of, field_skeleton};
-ghost use Rattle.hir_borrowing_fields.specs.InputFits.{SkeletonFits, TakesSoMany};
+ghost use Rattle.hir_borrowing_fields.specs.inside.InputFits.{SkeletonFits, TakesSoMany};
 ghost use Rattle.hir_borrowing_fields.specs.inside.Findings.{FindsMore};
 ghost use Rattle.hir_borrowing_fields.specs.inside.Places.{IsPlaceIn, names_at};
 ghost use Rattle.hir_borrowing_fields.specs.inside.TypeParts.{carrier_lifetimes, part_skeleton};

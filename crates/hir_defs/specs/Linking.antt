@@ -11,5 +11,5 @@ abbrev pub IsLinkable : Definitions → TypeId → List (MaybeStatic ℕ) → Ty
 IsLinkable defs id given = IsSomeAnd (environment_at defs id) (λ env. length given ≡ env.count)
 
 -- its lifetimes beside those that it is given, and that of the pointer before it, where there is one
-abbrev pub link_at : Definitions → TypeId → Option (MaybeStatic ℕ) → List (MaybeStatic ℕ) → Option Link
-link_at defs id pointed given = option_map (λ env. record { environment = env; self_lifetime = pointed; uses = given }) (environment_at defs id)
+abbrev pub link_to : Definitions → TypeId → Option (MaybeStatic ℕ) → List (MaybeStatic ℕ) → Option Link
+link_to defs id pointed given = option_map (λ env. record { environment = env; self_lifetime = pointed; uses = given }) (environment_at defs id)

@@ -10,6 +10,6 @@ pub fn positions_define_structs()
     ensures everywhere { defines_structs ⟦<Everywhere as TyPosition>⟧.IN_OUT_STATUS ≡ true }
     ensures output { defines_structs ⟦<OutputOnly as TyPosition>⟧.IN_OUT_STATUS ≡ true }
     ensures input { defines_structs ⟦<InputOnly as TyPosition>⟧.IN_OUT_STATUS ≡ false }
-    ensures returned_by_callback { defines_structs ⟦<CallbackReturn as TyPosition>⟧.IN_OUT_STATUS
+    ensures of_callback { defines_structs ⟦<CallbackReturn as TyPosition>⟧.IN_OUT_STATUS
         ≡ false }
 {}

@@ -1,7 +1,7 @@
 //! Paths beside the lifetimes of what they name.
 
 ghost use Rattle.std.specs.Prelude.{◌≡◌, Some, None};
-ghost use Rattle.hir_defs.specs.Linking.{IsLinkable, link_at};
+ghost use Rattle.hir_defs.specs.Linking.{IsLinkable, link_to};
 ghost use Rattle.hir_ids.specs.declared.ids.TypeId.TheVariants as type;
 
 use hir_context::TypeContext;
@@ -27,7 +27,7 @@ pub trait LinkedPath {
     /// The lifetimes of the definition, which is there and has as many, beside those of the path.
     fn link_lifetimes<'def, 'tcx>(&'def self, tcx: &'tcx TypeContext) -> LinkedLifetimes<'def, 'tcx>
         requires { IsLinkable tcx.now.definitions (linked self.now) (given self.now) }
-        ensures { link_at tcx.now.definitions (linked self.now) (pointed self.now) (given self.now)
+        ensures { link_to tcx.now.definitions (linked self.now) (pointed self.now) (given self.now)
             ≡ Some result };
 }
 

@@ -3,7 +3,7 @@
 ghost use Rattle.std.specs.Prelude.{◌≡◌, IfSome, Some, None, is_some, option_map};
 ghost use Rattle.hir_context.specs.Lookups.{IsIn, defined_at, lent_type};
 ghost use Rattle.hir_defs.specs.Defined.{defines_structs};
-ghost use Rattle.hir_defs.specs.Linking.{IsLinkable, link_at};
+ghost use Rattle.hir_defs.specs.Linking.{IsLinkable, link_to};
 ghost use Rattle.hir_ids.specs.declared.ids.SymbolId.TheVariants as symbol;
 
 use crate::linking::LinkedPath;
@@ -39,7 +39,7 @@ pub trait PositionDefs: PositionTypes {
     ) -> LinkedLifetimes<'def, 'tcx>
         requires { IsLinkable tcx.now.definitions (Self.StructPath.id_of path.now)
             (Self.StructPath.lifetimes_of path.now) }
-        ensures { link_at tcx.now.definitions (Self.StructPath.id_of path.now) None
+        ensures { link_to tcx.now.definitions (Self.StructPath.id_of path.now) None
             (Self.StructPath.lifetimes_of path.now) ≡ Some result };
 
     /// The type that a struct defines here, lent. None exactly where the position is one of inputs

@@ -3,7 +3,7 @@ use Rattle.std.specs.List.{All}
 use Rattle.hir_mentions.specs.Mentions.{where_any}
 use Rattle.hir_skeleton.specs.Lowered.{receiver_skeleton}
 use Rattle.hir_skeleton.specs.Inputs.{param_skeleton}
-use Rattle.hir_borrowing_fields.specs.InputFits.{SkeletonFits}
+use Rattle.hir_borrowing_fields.specs.inside.InputFits.{SkeletonFits}
 use Rattle.hir_borrowing_fields.specs.inside.Walks.{GoesOn, behind, leaves_of_each, named_param, named_receiver, walked_type}
 use Rattle.hir_borrowing_fields.proofs.WalkLemmas.{all_behind, goes_both}
 use Rattle.hir_borrowing_fields.proofs.inputs.add_inputs.Goals as goal

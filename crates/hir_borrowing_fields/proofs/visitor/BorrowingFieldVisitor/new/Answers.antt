@@ -1,7 +1,7 @@
 use Rattle.std.proofs.Common.{ap, length, subst, sym, ◌∙◌}
 use Rattle.std.specs.List.{All}
 use Rattle.hir_skeleton.specs.Inputs.{method_inputs}
-use Rattle.hir_borrowing_fields.specs.InputFits.{SkeletonFits}
+use Rattle.hir_borrowing_fields.specs.inside.InputFits.{SkeletonFits}
 use Rattle.hir_borrowing_fields.proofs.FittingLemmas.{inputs_fit}
 use Rattle.hir_borrowing_fields.proofs.WalkLemmas.{length_identity}
 use Rattle.hir_borrowing_fields.proofs.visitor.BorrowingFieldVisitor.new.Goals as goal
