@@ -2,7 +2,7 @@
 use Rattle.std.proofs.Common.{◌≡◌, ℕ, zero, suc, ◌+◌, ◌<◌, ◌≤◌, Bool, true, false, cond, List, [], ◌∷◌, ◌++◌, length, map, take}
 use Rattle.std.proofs.Common.{drop, get_or, set, Option, Some, None, length-append, take-append-drop, refl, sym, ap, ◌∙◌, arith}
 use Rattle.std.proofs.Common.{subst, inl, inr, nat_eq}
-use Rattle.std.specs.Prelude.{option_map, slice_get}
+use Rattle.std.specs.Prelude.{MatchOption, option_map, slice_get}
 use Rattle.std.specs.Ordering.{nat_cmp, is_eq}
 use Rattle.std.specs.Cmp.Lexicographic.{slice_cmp}
 use Rattle.std.specs.BTreeMap.{get}
@@ -19,6 +19,7 @@ use Rattle.bridge_ast.specs.declared.fault.EnvPart.TheVariants as part
 use Rattle.bridge_ast.specs.EnvFaults.{IsFirst, module_at, named_at, named_in, parent_and_last, parent_faults}
 use Rattle.bridge_ast.specs.EnvFaults.{submodule_faults, path_faults, repeats, place, path_eq}
 use Rattle.bridge_text.specs.NameIndex.{HasMeanings, meaning_of}
+use Rattle.bridge_ast.specs.Paths.{IsSubmodule}
 use Rattle.bridge_ast.specs.inside.Scopes.{ArePaths, IsUnder, IsParent, IsScope, Knows, AddsSubmodule, AddsUnder, Enters}
 use Rattle.bridge_ast.proofs.PathLemmas.{module_at_some, module_at-push, module_at-old, named_at_module, absent_longer}
 use Rattle.bridge_ast.proofs.PathLemmas.{parent_and_last-snoc, snoc_same, slice_get_push, parent_more, paths_more, none_under}
@@ -274,3 +275,11 @@ module _ (old new : List Scope) (modules : List Module) (m : Module) (known : Kn
         parent =
             subst (λ p. IsParent (modules ++ m ∷ []) p m.path) (sym parent_is) (parent_more modules m parent m.path is_parent);
       }
+
+-- the parent of a module's path is a module that it is a submodule of
+pub around_by_name : (modules : List Module) (n : ℕ) (m : Module) (parent : Option ℕ) → slice_get modules n ≡ Some m
+    → IsParent modules parent m.path
+    → MatchOption parent (m.path ≡ []) (λ outer. (name : List ℕ) × IsSubmodule modules outer name n)
+around_by_name modules n m None stands root = root
+around_by_name modules n m (Some outer) stands (name, u) =
+    (name, record { parent = u.above; child = m; outer_is = u.stands; inner_is = stands; ends = u.ends })

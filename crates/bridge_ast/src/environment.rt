@@ -1,15 +1,16 @@
 //! Environments: modules whose names and bounds fit together.
 
-ghost use Rattle.std.specs.Prelude.{◌≡◌, IfOk, IfErr, Contains};
+ghost use Rattle.std.specs.Prelude.{◌≡◌, ◌<◌, ℕ, List, [], length, slice_get, MatchOption, Some, IfOk, IfErr, Contains};
 ghost use Rattle.bridge_decl.specs.declared.lifetimes.LifetimeEnv.{LifetimeEnv};
 ghost use Rattle.bridge_decl.specs.declared.modules.Item.{Item};
 ghost use Rattle.bridge_decl.specs.declared.modules.Module.{Module};
 ghost use Rattle.bridge_decl.specs.Lifetimes.{IsSoundEnvironment};
 ghost use Rattle.bridge_ast.specs.AliasCount.{alias_count};
+ghost use Rattle.bridge_ast.specs.Paths.{IsSubmodule};
 
 use crate::alias_ends::ends_of;
 use crate::fault::EnvFault;
-use crate::scopes::{Scope, scopes_of};
+use crate::scopes::{Scope, parent_of, scopes_of};
 use crate::trail::Ends;
 use bridge_decl::Module;
 use sqlite_items::Items;
@@ -83,6 +84,16 @@ impl Env {
         ensures sound { AreSound result.now }
     {
         self.modules.as_slice()
+    }
+
+    /// The number of the module around that of a number; none for the root, whose path is empty.
+    pub fn parent(&self, number: usize) -> Option<usize>
+        requires { number < length self.now }
+        ensures { (m : Module) → slice_get self.now number ≡ Some m
+            → MatchOption result (m.path ≡ [])
+            (λ outer. (name : List ℕ) × IsSubmodule self.now outer name number) }
+    {
+        parent_of(self.scopes.as_slice(), number)
     }
 
     /// The lifetimes that a struct, an opaque, a trait or a function declares fit together, and so do those of each method. The call

@@ -46,6 +46,17 @@ pub fn part_of(scopes: &[Scope], number: usize, name: &Text) -> Option<EnvPart>
     at(scopes, number)?.names.get(name).copied()
 }
 
+/// The number of the module around that of a number; none for the root.
+pub fn parent_of(scopes: &[Scope], number: usize) -> Option<usize>
+    ensures { (modules : List Module) (m : Module) → Knows scopes.now modules
+        → slice_get modules number ≡ Some m → IsParent modules result m.path }
+{
+    match at(scopes, number) {
+        Some(scope) => scope.parent,
+        None => None,
+    }
+}
+
 /// The number of the module of a path.
 fn find_module(scopes: &[Scope], path: &[Text]) -> Option<usize>
     ensures { (modules : List Module) → Knows scopes.now modules
