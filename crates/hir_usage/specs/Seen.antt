@@ -25,5 +25,5 @@ used (use_as.Input id ok err) = InResult (id_lent id) (usage.Input (record { ok 
 used (use_as.Output id ok err) = InResult (id_lent id) (usage.Output (record { ok = ok.now; err = err.now }))
 
 -- each of a list
-abbrev pub seen : Vec Use → List Used
-seen uses = map used uses.items
+abbrev pub meant : Vec Use → List Used
+meant uses = map used uses.items

@@ -3,7 +3,7 @@
 ghost use Rattle.std.specs.Prelude.{◌≡◌, ◌++◌, IfOk, OnOk};
 ghost use Rattle.std.specs.List.{flat_map};
 ghost use Rattle.hir_usage.specs.Callbacks.{callback_usages, input_usages, method_usages, output_usages};
-ghost use Rattle.hir_usage.specs.Seen.{seen};
+ghost use Rattle.hir_usage.specs.Seen.{meant};
 
 use crate::returns::add_return;
 use crate::types::add_type;
@@ -18,8 +18,8 @@ fn add_callback_params<'a>(
     uses: &mut Vec<Use<'a>>,
     params: &'a [CallbackParam],
 ) -> Result<(), NoMemory>
-    ensures { OnOk result (seen uses.new
-        ≡ seen uses.old ++ flat_map (λ p. output_usages p.ty) params.now) }
+    ensures { OnOk result (meant uses.new
+        ≡ meant uses.old ++ flat_map (λ p. output_usages p.ty) params.now) }
 {
     for param in params {
         add_type(uses, &param.ty, false)?;
@@ -32,7 +32,7 @@ pub(crate) fn add_callback<'a>(
     uses: &mut Vec<Use<'a>>,
     callback: &'a Callback,
 ) -> Result<(), NoMemory>
-    ensures { OnOk result (seen uses.new ≡ seen uses.old ++ callback_usages callback.now) }
+    ensures { OnOk result (meant uses.new ≡ meant uses.old ++ callback_usages callback.now) }
 {
     add_callback_params(uses, callback.params.as_slice())?;
     add_return(uses, &callback.output)
@@ -40,7 +40,7 @@ pub(crate) fn add_callback<'a>(
 
 /// How a callback, or a method of a trait, uses definitions: what it takes, and what it returns.
 pub fn callback_usages(alloc: Global, callback: &Callback) -> Result<Vec<Use<'_>>, NoMemory>
-    ensures { IfOk result (λ uses. seen uses ≡ callback_usages callback.now) }
+    ensures { IfOk result (λ uses. meant uses ≡ callback_usages callback.now) }
 {
     let mut uses = Vec::new(alloc);
     add_callback(&mut uses, callback)?;
@@ -49,8 +49,8 @@ pub fn callback_usages(alloc: Global, callback: &Callback) -> Result<Vec<Use<'_>
 
 /// Adds how parameters use definitions.
 fn add_params<'a>(uses: &mut Vec<Use<'a>>, params: &'a [Param]) -> Result<(), NoMemory>
-    ensures { OnOk result (seen uses.new
-        ≡ seen uses.old ++ flat_map (λ p. input_usages p.ty) params.now) }
+    ensures { OnOk result (meant uses.new
+        ≡ meant uses.old ++ flat_map (λ p. input_usages p.ty) params.now) }
 {
     for param in params {
         add_type(uses, &param.ty, false)?;
@@ -61,7 +61,7 @@ fn add_params<'a>(uses: &mut Vec<Use<'a>>, params: &'a [Param]) -> Result<(), No
 /// How a method or a function uses definitions: its parameters with what their callbacks do, and
 /// its return. A receiver is no such use.
 pub fn method_usages(alloc: Global, method: &Method) -> Result<Vec<Use<'_>>, NoMemory>
-    ensures { IfOk result (λ uses. seen uses ≡ method_usages method.now) }
+    ensures { IfOk result (λ uses. meant uses ≡ method_usages method.now) }
 {
     let mut uses = Vec::new(alloc);
     add_params(&mut uses, method.params.as_slice())?;

@@ -2,7 +2,7 @@
 
 ghost use Rattle.std.specs.Prelude.{◌≡◌, IfOk};
 ghost use Rattle.hir_usage.specs.Definitions.{fields_usages, trait_usages};
-ghost use Rattle.hir_usage.specs.Seen.{seen};
+ghost use Rattle.hir_usage.specs.Seen.{meant};
 ghost use Rattle.hir_usage.specs.Types.{type_usages};
 
 use crate::callbacks::add_callback;
@@ -18,7 +18,7 @@ pub fn field_usages<P: PositionUses>(
     alloc: Global,
     fields: &[StructField<P>],
 ) -> Result<Vec<Use<'_>>, NoMemory>
-    ensures { IfOk result (λ uses. seen uses ≡ fields_usages
+    ensures { IfOk result (λ uses. meant uses ≡ fields_usages
         (type_usages P.IN_OUT_STATUS P.OpaqueOwnership.borrow_of P.StructPath.id_of P.of_callback)
         fields.now) }
 {
@@ -31,7 +31,7 @@ pub fn field_usages<P: PositionUses>(
 
 /// How the methods of a trait use definitions, in order.
 pub fn trait_usages(alloc: Global, def: &TraitDef) -> Result<Vec<Use<'_>>, NoMemory>
-    ensures { IfOk result (λ uses. seen uses ≡ trait_usages def.now) }
+    ensures { IfOk result (λ uses. meant uses ≡ trait_usages def.now) }
 {
     let mut uses = Vec::new(alloc);
     for method in def.methods.as_slice() {

@@ -4,7 +4,7 @@ ghost use Rattle.std.specs.Prelude.{◌≡◌, [], ◌∷◌, ◌++◌, OnOk, op
 ghost use Rattle.hir_definitions.specs.declared.usage.ResultUsage.{ResultUsage};
 ghost use Rattle.hir_mentions.specs.Mentions.{where_any};
 ghost use Rattle.hir_usage.specs.Callbacks.{callback_usages};
-ghost use Rattle.hir_usage.specs.Seen.{seen, id_lent};
+ghost use Rattle.hir_usage.specs.Seen.{meant, id_lent};
 ghost use Rattle.hir_usage.specs.Uses.{InResult};
 
 use crate::callbacks::add_callback;
@@ -33,8 +33,8 @@ pub trait PositionUses: TyPosition {
         uses: &mut Vec<Use<'a>>,
         callback: Option<&'a Self::CallbackInstantiation>,
     ) -> Result<(), NoMemory>
-        ensures { OnOk result (seen uses.new
-            ≡ seen uses.old ++ where_any of_callback (option_copied callback.entry)) };
+        ensures { OnOk result (meant uses.new
+            ≡ meant uses.old ++ where_any of_callback (option_copied callback.entry)) };
 }
 
 impl PositionUses for Everywhere {
@@ -123,8 +123,8 @@ pub trait ReturnPosition: PositionUses {
         ok: &'a SuccessType<Self>,
         err: &'a Option<HirType<Self>>,
     ) -> Result<(), NoMemory>
-        ensures { OnOk result (seen uses.new
-            ≡ seen uses.old ++ InResult (id_lent id.entry) (result_of ok.now err.now) ∷ []) };
+        ensures { OnOk result (meant uses.new
+            ≡ meant uses.old ++ InResult (id_lent id.entry) (result_of ok.now err.now) ∷ []) };
 }
 
 impl ReturnPosition for OutputOnly {

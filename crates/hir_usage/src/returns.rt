@@ -4,7 +4,7 @@ ghost use Rattle.std.specs.Prelude.{◌≡◌, ◌++◌, IfOk, OnOk};
 ghost use Rattle.hir_types.specs.Returns.{type_in};
 ghost use Rattle.hir_mentions.specs.Mentions.{where_any};
 ghost use Rattle.hir_usage.specs.Returns.{result_usages, return_usages};
-ghost use Rattle.hir_usage.specs.Seen.{seen};
+ghost use Rattle.hir_usage.specs.Seen.{meant};
 ghost use Rattle.hir_usage.specs.Types.{optioned_usages, type_usages, uses_within};
 
 use crate::positions::{PositionUses, ReturnPosition};
@@ -20,7 +20,7 @@ fn add_success<'a, P: PositionUses>(
     success: &'a SuccessType<P>,
     in_option: bool,
 ) -> Result<(), NoMemory>
-    ensures { OnOk result (seen uses.new ≡ seen uses.old
+    ensures { OnOk result (meant uses.new ≡ meant uses.old
         ++ where_any (λ t. uses_within P.IN_OUT_STATUS P.OpaqueOwnership.borrow_of
         P.StructPath.id_of P.of_callback t in_option) (type_in success.now)) }
 {
@@ -35,7 +35,7 @@ fn add_error<'a, P: PositionUses>(
     uses: &mut Vec<Use<'a>>,
     error: &'a Option<HirType<P>>,
 ) -> Result<(), NoMemory>
-    ensures { OnOk result (seen uses.new ≡ seen uses.old
+    ensures { OnOk result (meant uses.new ≡ meant uses.old
         ++ where_any (type_usages P.IN_OUT_STATUS P.OpaqueOwnership.borrow_of P.StructPath.id_of
         P.of_callback) error.now) }
 {
@@ -52,7 +52,7 @@ fn add_result<'a, P: ReturnPosition>(
     ok: &'a SuccessType<P>,
     err: &'a Option<HirType<P>>,
 ) -> Result<(), NoMemory>
-    ensures { OnOk result (seen uses.new ≡ seen uses.old
+    ensures { OnOk result (meant uses.new ≡ meant uses.old
         ++ result_usages P.StructPath.id_of (P.result_of ok.now err.now) ty.now) }
 {
     match definition_of(ty) {
@@ -67,7 +67,7 @@ fn add_results<'a, P: ReturnPosition>(
     ok: &'a SuccessType<P>,
     err: &'a Option<HirType<P>>,
 ) -> Result<(), NoMemory>
-    ensures { OnOk result (seen uses.new ≡ seen uses.old
+    ensures { OnOk result (meant uses.new ≡ meant uses.old
         ++ where_any (result_usages P.StructPath.id_of (P.result_of ok.now err.now))
         (type_in ok.now)
         ++ where_any (result_usages P.StructPath.id_of (P.result_of ok.now err.now)) err.now) }
@@ -86,7 +86,7 @@ pub(crate) fn add_return<'a, P: ReturnPosition>(
     uses: &mut Vec<Use<'a>>,
     output: &'a ReturnType<P>,
 ) -> Result<(), NoMemory>
-    ensures { OnOk result (seen uses.new ≡ seen uses.old ++ return_usages
+    ensures { OnOk result (meant uses.new ≡ meant uses.old ++ return_usages
         (type_usages P.IN_OUT_STATUS P.OpaqueOwnership.borrow_of P.StructPath.id_of P.of_callback)
         (optioned_usages P.IN_OUT_STATUS P.OpaqueOwnership.borrow_of P.StructPath.id_of
         P.of_callback) P.StructPath.id_of P.result_of output.now) }
@@ -107,7 +107,7 @@ pub fn return_usages<P: ReturnPosition>(
     alloc: Global,
     output: &ReturnType<P>,
 ) -> Result<Vec<Use<'_>>, NoMemory>
-    ensures { IfOk result (λ uses. seen uses ≡ return_usages
+    ensures { IfOk result (λ uses. meant uses ≡ return_usages
         (type_usages P.IN_OUT_STATUS P.OpaqueOwnership.borrow_of P.StructPath.id_of P.of_callback)
         (optioned_usages P.IN_OUT_STATUS P.OpaqueOwnership.borrow_of P.StructPath.id_of
         P.of_callback) P.StructPath.id_of P.result_of output.now) }

@@ -2,7 +2,7 @@
 
 ghost use Rattle.std.specs.Prelude.{◌≡◌, ◌++◌, IfOk, OnOk, option_map};
 ghost use Rattle.hir_types.specs.Types.{type_id};
-ghost use Rattle.hir_usage.specs.Seen.{seen, id_lent};
+ghost use Rattle.hir_usage.specs.Seen.{meant, id_lent};
 ghost use Rattle.hir_usage.specs.Types.{opaque_usages, slice_usages, type_usages, uses_within};
 ghost use Rattle.hir_usage.specs.Uses.{is_optioned, optioned_where};
 
@@ -31,8 +31,8 @@ fn add_optioned<'a>(
     in_option: bool,
     id: LentId<'a>,
 ) -> Result<(), NoMemory>
-    ensures { OnOk result (seen uses.new
-        ≡ seen uses.old ++ optioned_where in_option (id_lent id.entry)) }
+    ensures { OnOk result (meant uses.new
+        ≡ meant uses.old ++ optioned_where in_option (id_lent id.entry)) }
 {
     if in_option {
         uses.push(Use::Optioned(id))?;
@@ -46,8 +46,8 @@ fn add_opaque<'a, Owner: OpaqueOwner>(
     status: InputOrOutput,
     path: &'a OpaquePath<Optional, Owner>,
 ) -> Result<(), NoMemory>
-    ensures { OnOk result (seen uses.new
-        ≡ seen uses.old ++ opaque_usages status Owner.borrow_of path.now) }
+    ensures { OnOk result (meant uses.new
+        ≡ meant uses.old ++ opaque_usages status Owner.borrow_of path.now) }
 {
     let in_option = is_optioned(status, path.is_optional(), path.is_owned());
     add_optioned(uses, in_option, LentId::Opaque(&path.tcx_id))
@@ -58,8 +58,8 @@ fn add_slice<'a, P: PositionUses>(
     uses: &mut Vec<Use<'a>>,
     slice: &'a Slice<P>,
 ) -> Result<(), NoMemory>
-    ensures { OnOk result (seen uses.new
-        ≡ seen uses.old ++ slice_usages P.IN_OUT_STATUS P.StructPath.id_of slice.now) }
+    ensures { OnOk result (meant uses.new
+        ≡ meant uses.old ++ slice_usages P.IN_OUT_STATUS P.StructPath.id_of slice.now) }
 {
     match slice {
         Slice::Str(_, _) | Slice::Primitive(_, _) | Slice::Strs(_) => {}
@@ -79,7 +79,7 @@ pub(crate) fn add_type<'a, P: PositionUses>(
     ty: &'a HirType<P>,
     in_option: bool,
 ) -> Result<(), NoMemory>
-    ensures { OnOk result (seen uses.new ≡ seen uses.old
+    ensures { OnOk result (meant uses.new ≡ meant uses.old
         ++ uses_within P.IN_OUT_STATUS P.OpaqueOwnership.borrow_of P.StructPath.id_of
         P.of_callback ty.now in_option) }
 {
@@ -114,7 +114,7 @@ pub fn type_usages<P: PositionUses>(
     alloc: Global,
     ty: &HirType<P>,
 ) -> Result<Vec<Use<'_>>, NoMemory>
-    ensures { IfOk result (λ uses. seen uses ≡ type_usages P.IN_OUT_STATUS
+    ensures { IfOk result (λ uses. meant uses ≡ type_usages P.IN_OUT_STATUS
         P.OpaqueOwnership.borrow_of P.StructPath.id_of P.of_callback ty.now) }
 {
     let mut uses = Vec::new(alloc);

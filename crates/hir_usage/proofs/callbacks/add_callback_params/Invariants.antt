@@ -1,8 +1,8 @@
 use Rattle.std.proofs.Common.{◌≡◌, ◌++◌, take}
 use Rattle.std.specs.List.{flat_map}
 use Rattle.hir_usage.specs.Callbacks.{output_usages}
-use Rattle.hir_usage.specs.Seen.{seen}
+use Rattle.hir_usage.specs.Seen.{meant}
 use Rattle.hir_usage.proofs.callbacks.add_callback_params.Given as goal
 
 abbrev pub invariant-loop-param : goal.invariant-loop-param
-invariant-loop-param l = seen l.uses ≡ seen l.fn.uses ++ flat_map (λ p. output_usages p.ty) (take l.param-index l.params)
+invariant-loop-param l = meant l.uses ≡ meant l.fn.uses ++ flat_map (λ p. output_usages p.ty) (take l.param-index l.params)

@@ -1,0 +1,2 @@
+pub mod EarlierLemmas
+pub mod MarkLemmas

@@ -1,0 +1,3 @@
+pub mod ModuleMarks
+pub mod Holding
+pub mod inside
