@@ -5,6 +5,7 @@ mod conditions;
 mod includes;
 mod inheritance;
 mod links;
+mod modules;
 mod notation;
 mod rendering;
 mod repeated;

@@ -1,10 +1,12 @@
 //! Worked examples.
 
 mod lifetimes;
+mod paths;
 mod positions;
 mod queries;
 mod receivers;
 mod returns;
+mod slices;
 
 use bridge_decl::{Items, Mutability};
 use hir_ids::{Borrow, EnumId, MaybeOwn, OpaqueId, Optional, OutStructId, StructId, TraitId};

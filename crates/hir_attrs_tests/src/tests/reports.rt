@@ -102,7 +102,7 @@ const ROWS: [(&str, &str, &str, &str, &str); 13] = [
 ];
 
 /// The reports that the store holds, one after another.
-fn printed(alloc: Global, errors: &mut ErrorStore<'_>) -> Result<String, NoMemory> {
+pub fn printed(alloc: Global, errors: &mut ErrorStore<'_>) -> Result<String, NoMemory> {
     let mut text = String::new(alloc);
     for report in errors.take_errors() {
         text.push_str(report.to_string(alloc)?.as_str())?;

@@ -4,6 +4,7 @@ use crate::tests::made::{
     Of, add_opaque, add_struct, enumeration, function, in_root, interface, no_parts, out_struct,
 };
 use crate::tests::paths::{compare_links, compare_paths, compare_positions};
+use bridge_decl::Text;
 use hir_context::{ContextParts, TypeContext};
 use hir_ids::{EnumId, FunctionId, OpaqueId, OutStructId, StructId, SymbolId, TraitId, TypeId};
 use std::alloc::Global;
@@ -37,20 +38,27 @@ fn add_others(alloc: Global, parts: &mut ContextParts) -> Result<(), Fail> {
     Ok(())
 }
 
-/// A function of this name.
-fn add_function(alloc: Global, parts: &mut ContextParts, called: &str) -> Result<(), Fail> {
-    parts
-        .functions
-        .push(in_root(alloc, function(alloc, called)?))?;
+/// A function of this name, in a module with a path of so many segments.
+fn add_function(
+    alloc: Global,
+    parts: &mut ContextParts,
+    called: &str,
+    depth: usize,
+) -> Result<(), Fail> {
+    let mut placed = in_root(alloc, function(alloc, called)?);
+    for _ in 0..depth {
+        placed.module.push(Text::new(alloc, "files")?)?;
+    }
+    parts.functions.push(placed)?;
     Ok(())
 }
 
-/// All these, and the functions `find` and `read`.
+/// All these, and the functions `find` and `files::files::read`.
 fn add_all(alloc: Global, parts: &mut ContextParts) -> Result<(), Fail> {
     add_types(alloc, parts)?;
     add_others(alloc, parts)?;
-    add_function(alloc, parts, "find")?;
-    add_function(alloc, parts, "read")
+    add_function(alloc, parts, "find", 0)?;
+    add_function(alloc, parts, "read", 2)
 }
 
 /// The context of these parts.
@@ -141,26 +149,27 @@ fn compare_traits(rt: &impl Abort, tcx: &TypeContext) -> Result<(), Fail> {
     Ok(())
 }
 
-/// The name of the definition of an id, where there is one.
-fn name_of<'a>(tcx: &'a TypeContext, id: &SymbolId) -> Option<&'a str> {
+/// The name of the definition of an id, and how deep its module is, where there is one.
+fn found<'a>(tcx: &'a TypeContext, id: &SymbolId) -> Option<(&'a str, usize)> {
     if tcx.contains_symbol(*id) {
-        Some(tcx.fmt_symbol_name_diagnostics(*id))
+        let depth = tcx.module_path(*id).len();
+        Some((tcx.fmt_symbol_name_diagnostics(*id), depth))
     } else {
         None
     }
 }
 
-/// Compares the names of ids with the table.
+/// Compares the names and modules of ids with the table.
 fn compare_names(rt: &impl Abort, tcx: &TypeContext) {
     let rows = [
         (
             SymbolId::TypeId(TypeId::Struct(StructId::new(1))),
-            Some("Rest"),
+            Some(("Rest", 0)),
         ),
         (SymbolId::TypeId(TypeId::Struct(StructId::new(2))), None),
         (
             SymbolId::TypeId(TypeId::OutStruct(OutStructId::new(0))),
-            Some("Found"),
+            Some(("Found", 0)),
         ),
         (
             SymbolId::TypeId(TypeId::OutStruct(OutStructId::new(1))),
@@ -168,20 +177,20 @@ fn compare_names(rt: &impl Abort, tcx: &TypeContext) {
         ),
         (
             SymbolId::TypeId(TypeId::Opaque(OpaqueId::new(0))),
-            Some("Page"),
+            Some(("Page", 0)),
         ),
         (
             SymbolId::TypeId(TypeId::Enum(EnumId::new(0))),
-            Some("Color"),
+            Some(("Color", 0)),
         ),
         (SymbolId::TypeId(TypeId::Enum(EnumId::new(1))), None),
-        (SymbolId::TraitId(TraitId::new(0)), Some("Sink")),
+        (SymbolId::TraitId(TraitId::new(0)), Some(("Sink", 0))),
         (SymbolId::TraitId(TraitId::new(1)), None),
-        (SymbolId::FunctionId(FunctionId::new(1)), Some("read")),
+        (SymbolId::FunctionId(FunctionId::new(1)), Some(("read", 2))),
         (SymbolId::FunctionId(FunctionId::new(2)), None),
     ];
     for (id, expected) in &rows {
-        assert_eq!(rt; name_of(tcx, id), *expected);
+        assert_eq!(rt; found(tcx, id), *expected);
     }
 }
 

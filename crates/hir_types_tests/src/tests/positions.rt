@@ -3,7 +3,8 @@
 use crate::tests::{callback, trait_path};
 use hir_ids::{InputOrOutput, TraitId};
 use hir_types::{
-    CallbackReturn, Everywhere, InputOnly, OutputOnly, PositionTypes, TraitIdGetter, TyPosition,
+    Callback, CallbackInstantiationFunctionality, CallbackReturn, Everywhere, InputOnly,
+    NoCallback, OutputOnly, PositionTypes, TraitIdGetter, TyPosition,
 };
 use std::alloc::Global;
 
@@ -32,4 +33,18 @@ fn a_trait_is_built_as_it_was(rt: HostRuntime) {
     let built = CallbackReturn::build_trait_path(trait_path(rt.alloc()));
     let id = built.as_ref().map(|path| path.id());
     assert_eq!(rt; id, Some(TraitId::new(5)));
+}
+
+/// How much a callback takes, where there is one, and whether it says what it returns.
+fn asked<C: CallbackInstantiationFunctionality>(callback: Option<&C>) -> (Option<usize>, bool) {
+    let inputs = C::get_inputs(callback).map(|params| params.len());
+    (inputs, C::get_output_type(callback).is_some())
+}
+
+#[test]
+fn callbacks_say_what_they_take_and_return(rt: HostRuntime) {
+    let callback = callback(rt.alloc());
+    assert_eq!(rt; asked(Some(&callback)), (Some(0), true));
+    assert_eq!(rt; asked::<Callback>(None), (None, false));
+    assert_eq!(rt; asked::<NoCallback>(None), (None, false));
 }

@@ -1,9 +1,11 @@
 //! What is asked of types.
 
-use crate::tests::{enumeration, exclusive, opaque, out_structure, shared, structure};
-use bridge_decl::Boxed;
+use crate::tests::{
+    callback, enumeration, exclusive, opaque, out_structure, shared, structure, trait_path,
+};
+use bridge_decl::{Boxed, StringEncoding};
 use hir_ids::{EnumId, MaybeOwn, OpaqueId, OutStructId, PrimitiveType, StructId, TypeId};
-use hir_types::{HirType, OutType, ReturnableStructPath};
+use hir_types::{HirType, InputOnly, OutType, OutputOnly, ReturnableStructPath, Slice, TyPosition};
 use std::alloc::Global;
 use std::process::Abort;
 use std::test::Fail;
@@ -30,7 +32,7 @@ fn compare(rt: &impl Abort, alloc: Global, ty: &OutType, row: &Row) -> Result<()
 }
 
 /// Compares what is asked of the type with the row.
-fn tell(rt: &impl Abort, ty: &OutType, row: &Row) {
+fn tell<P: TyPosition>(rt: &impl Abort, ty: &HirType<P>, row: &Row) {
     assert_eq!(rt; ty.id(), row.id);
     assert_eq!(rt; ty.is_option(), row.is_option);
     assert_eq!(rt; ty.is_immutably_borrowed(), row.immutably);
@@ -99,4 +101,50 @@ fn enums_and_primitives(rt: HostRuntime) -> Result<(), Fail> {
     compare(&rt, alloc, &HirType::Enum(enumeration()), &row)?;
     row.id = None;
     compare(&rt, alloc, &HirType::Primitive(PrimitiveType::Char), &row)
+}
+
+/// A type that comes in.
+type InType = HirType<InputOnly>;
+
+/// Of a type that names no definition, and may neither be absent nor borrowed.
+const PLAIN: Row = Row {
+    id: None,
+    is_option: false,
+    immutably: false,
+    mutably: false,
+};
+
+#[test]
+fn structs_come_in_by_themselves_and_behind_pointers(rt: HostRuntime) -> Result<(), Fail> {
+    let rows = [
+        (MaybeOwn::Own, false, false),
+        (MaybeOwn::Borrow(shared(0)), true, false),
+        (MaybeOwn::Borrow(exclusive(0)), false, true),
+    ];
+    for (owner, immutably, mutably) in rows {
+        let ty: InType = HirType::Struct(structure(rt.alloc(), &[], owner)?);
+        let row = Row {
+            id: Some(TypeId::Struct(StructId::new(1))),
+            is_option: false,
+            immutably,
+            mutably,
+        };
+        tell(&rt, &ty, &row);
+    }
+    Ok(())
+}
+
+#[test]
+fn callbacks_traits_and_slices_name_no_definition(rt: HostRuntime) -> Result<(), Fail> {
+    let alloc = rt.alloc();
+    let ty: InType = HirType::Callback(callback(alloc));
+    tell(&rt, &ty, &PLAIN);
+    let ty: InType = HirType::ImplTrait(trait_path(alloc));
+    tell(&rt, &ty, &PLAIN);
+    let ty: InType = HirType::Slice(Slice::Strs(StringEncoding::Utf8));
+    tell(&rt, &ty, &PLAIN);
+    let element = opaque(alloc, &[], true, shared(0))?;
+    let ty: OutType = HirType::Slice(Slice::Opaque(MaybeOwn::Borrow(shared(1)), element));
+    tell::<OutputOnly>(&rt, &ty, &PLAIN);
+    Ok(())
 }

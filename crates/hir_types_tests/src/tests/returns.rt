@@ -1,7 +1,7 @@
 //! What is asked of returns.
 
 use crate::tests::{opaque, shared};
-use hir_ids::{MaybeOwn, PrimitiveType};
+use hir_ids::{IntType, MaybeOwn, PrimitiveType};
 use hir_types::{HirType, OutType, OutputOnly, ReturnType, SuccessType, WriteType};
 use std::alloc::Global;
 use std::process::Abort;
@@ -61,15 +61,56 @@ fn page(alloc: Global, owner: MaybeOwn) -> Result<OutType, Fail> {
     Ok(HirType::Opaque(opaque(alloc, &[Some(4), None], true, owner)?))
 }
 
-#[test]
-fn a_writer_is_no_value(rt: HostRuntime) {
-    let row = Row {
+/// A writer of that.
+fn row(writes_16: bool, primitive: Option<PrimitiveType>) -> Row {
+    Row {
         writes: true,
-        writes_16: true,
-        primitive: None,
+        writes_16,
+        primitive,
         unit: false,
-    };
-    compare(&rt, &SuccessType::Write(WriteType::Str16), &row);
+    }
+}
+
+#[test]
+fn writers_are_no_values(rt: HostRuntime) {
+    compare(&rt, &SuccessType::Write(WriteType::Str), &row(false, None));
+    compare(&rt, &SuccessType::Write(WriteType::Str16), &row(true, None));
+    let wide = PrimitiveType::Int(IntType::U64);
+    compare(
+        &rt,
+        &SuccessType::Write(WriteType::Primitive(wide)),
+        &row(false, Some(wide)),
+    );
+}
+
+#[test]
+fn types_and_units_are_not_written(rt: HostRuntime) {
+    let mut row = row(false, None);
+    row.writes = false;
+    compare(
+        &rt,
+        &SuccessType::OutType(HirType::Primitive(PrimitiveType::Bool)),
+        &row,
+    );
+    row.unit = true;
+    compare(&rt, &SuccessType::Unit, &row);
+}
+
+#[test]
+fn nothing_is_returned_by_what_always_succeeds_without_a_value(rt: HostRuntime) {
+    let infallible = |success| -> Returned { ReturnType::Infallible(success) };
+    assert!(rt; infallible(SuccessType::Unit).is_ffi_unit());
+    assert!(rt; infallible(SuccessType::Write(WriteType::Str)).is_ffi_unit());
+    let number = SuccessType::OutType(HirType::Primitive(PrimitiveType::Char));
+    let returned = infallible(number);
+    assert!(rt; !returned.is_ffi_unit());
+    assert_eq!(rt; types_in(&returned), 1);
+    let nullable: Returned = ReturnType::Nullable(SuccessType::Unit);
+    assert!(rt; !nullable.is_ffi_unit());
+    assert!(rt; nullable.success_type().is_unit());
+    let fallible: Returned = ReturnType::Fallible(SuccessType::Unit, None);
+    assert!(rt; !fallible.is_ffi_unit());
+    assert_eq!(rt; types_in(&fallible), 0);
 }
 
 #[test]
@@ -79,4 +120,14 @@ fn a_return_names_its_lifetimes_in_order(rt: HostRuntime) -> Result<(), Fail> {
     let returned = ReturnType::Nullable(SuccessType::OutType(page));
     assert_eq!(rt; types_in(&returned), 1);
     names(&rt, alloc, &returned, &[1, 4])
+}
+
+#[test]
+fn a_return_names_the_lifetimes_of_its_error(rt: HostRuntime) -> Result<(), Fail> {
+    let alloc = rt.alloc();
+    let error = page(alloc, MaybeOwn::Borrow(shared(2)))?;
+    let returned = ReturnType::Fallible(SuccessType::Unit, Some(error));
+    assert!(rt; returned.success_type().is_unit());
+    assert_eq!(rt; types_in(&returned), 1);
+    names(&rt, alloc, &returned, &[2, 4])
 }

@@ -1,0 +1,189 @@
+//! What is asked of definitions and methods.
+
+use crate::tests::made::{
+    enumeration, function, input_struct, lifetime, opaque, out_struct, shared, struct_path,
+};
+use bridge_decl::{IdentBuf, Items, Mutability, NoMemory};
+use hir_attrs::{Attrs, DefaultArgValue};
+use hir_definitions::{Method, Param, ParamSelf, SpecialMethodPresence, TypeDef};
+use hir_ids::{Borrow, EnumId, MaybeOwn, NonOptional, OpaqueId};
+use hir_life::{LifetimeEnv, Lifetimes};
+use hir_types::{EnumPath, HirType, OpaquePath, SelfType};
+use std::alloc::Global;
+use std::process::Abort;
+use std::test::Fail;
+
+/// `&'0 mut T`.
+fn exclusive() -> Borrow {
+    Borrow {
+        mutability: Mutability::Mutable,
+        ..shared(0)
+    }
+}
+
+/// Whether a method may write through this receiver.
+fn may_write(alloc: Global, ty: SelfType) -> bool {
+    let attrs = Attrs::empty(alloc);
+    ParamSelf { ty, attrs }.get_mutability().is_mutable()
+}
+
+/// An opaque so borrowed.
+fn page(alloc: Global, owner: Borrow) -> SelfType {
+    SelfType::Opaque(OpaquePath {
+        lifetimes: Lifetimes::new(alloc),
+        optional: NonOptional,
+        owner,
+        tcx_id: OpaqueId::new(0),
+    })
+}
+
+/// A struct so held.
+fn line(alloc: Global, owner: MaybeOwn) -> Result<SelfType, Fail> {
+    Ok(SelfType::Struct(struct_path(alloc, 0, &[], owner)?))
+}
+
+#[test]
+fn what_may_be_written_is_held_so(rt: HostRuntime) -> Result<(), Fail> {
+    let alloc = rt.alloc();
+    assert!(rt; !may_write(alloc, page(alloc, shared(0))));
+    assert!(rt; may_write(alloc, page(alloc, exclusive())));
+    let rows = [
+        (MaybeOwn::Own, true),
+        (MaybeOwn::Borrow(shared(0)), false),
+        (MaybeOwn::Borrow(exclusive()), true),
+    ];
+    for (owner, expected) in rows {
+        let receiver = line(alloc, owner)?;
+        assert_eq!(rt; may_write(alloc, receiver), expected);
+    }
+    let color = SelfType::Enum(EnumPath {
+        tcx_id: EnumId::new(0),
+    });
+    assert!(rt; !may_write(alloc, color));
+    Ok(())
+}
+
+/// A parameter whose mark gives it this value.
+fn param(alloc: Global, name: IdentBuf, value: Option<i128>) -> Param {
+    let mut attrs = Attrs::empty(alloc);
+    attrs.default_value = value.map(DefaultArgValue::Integer);
+    let ty = HirType::Enum(EnumPath {
+        tcx_id: EnumId::new(0),
+    });
+    Param { name, ty, attrs }
+}
+
+/// The number that stands for a parameter that isn't passed.
+fn number_of(param: &Param) -> Option<i128> {
+    match param.default_value() {
+        Some(DefaultArgValue::Integer(number)) => Some(*number),
+        _ => None,
+    }
+}
+
+#[test]
+fn a_parameter_may_have_a_value(rt: HostRuntime) -> Result<(), Fail> {
+    for value in [None, Some(7)] {
+        let name = IdentBuf::new(rt.alloc(), "depth")?;
+        assert_eq!(rt; number_of(&param(rt.alloc(), name, value)), value);
+    }
+    Ok(())
+}
+
+#[test]
+fn a_method_has_all_its_lifetimes(rt: HostRuntime) -> Result<(), Fail> {
+    let alloc = rt.alloc();
+    let mut method = function(alloc, "find")?;
+    method.lifetime_env = LifetimeEnv::new(Items::new(alloc), 3);
+    let all = method.method_lifetimes(alloc)?;
+    assert_eq!(rt; all.len(), 3);
+    for (number, found) in all.as_slice().iter().enumerate() {
+        assert_eq!(rt; *found, lifetime(number));
+    }
+    Ok(())
+}
+
+/// Notes that the type has one more method, what iterates over it, and that it is disabled.
+fn note(
+    methods: &mut Items<Method>,
+    special: &mut SpecialMethodPresence,
+    attrs: &mut Attrs,
+    method: Method,
+) -> Result<(), NoMemory> {
+    special.iterable = Some(OpaqueId::new(4));
+    attrs.disable = true;
+    methods.push(method)
+}
+
+/// Compares what is asked of a type with its name, and with whether this was noted.
+fn compare(rt: &impl Abort, def: TypeDef<'_>, name: &str, noted: bool) {
+    assert_eq!(rt; def.name().as_str(), name);
+    assert!(rt; def.docs().is_empty());
+    assert_eq!(rt; def.methods().len(), usize::from(noted));
+    assert_eq!(rt; def.attrs().disable, noted);
+    assert_eq!(rt; def.special_method_presence().iterable.is_some(), noted);
+}
+
+#[test]
+fn structs_are_asked_as_types(rt: HostRuntime) -> Result<(), Fail> {
+    let alloc = rt.alloc();
+    let method = function(alloc, "find")?;
+    let mut def = input_struct(alloc, "Line", 0, &[])?;
+    compare(&rt, TypeDef::Struct(&def), "Line", false);
+    note(
+        &mut def.methods,
+        &mut def.special_method_presence,
+        &mut def.attrs,
+        method,
+    )?;
+    compare(&rt, TypeDef::Struct(&def), "Line", true);
+    Ok(())
+}
+
+#[test]
+fn out_structs_are_asked_as_types(rt: HostRuntime) -> Result<(), Fail> {
+    let alloc = rt.alloc();
+    let method = function(alloc, "find")?;
+    let mut def = out_struct(alloc, "Found", 0)?;
+    compare(&rt, TypeDef::OutStruct(&def), "Found", false);
+    note(
+        &mut def.methods,
+        &mut def.special_method_presence,
+        &mut def.attrs,
+        method,
+    )?;
+    compare(&rt, TypeDef::OutStruct(&def), "Found", true);
+    Ok(())
+}
+
+#[test]
+fn opaques_are_asked_as_types(rt: HostRuntime) -> Result<(), Fail> {
+    let alloc = rt.alloc();
+    let method = function(alloc, "find")?;
+    let mut def = opaque(alloc, "Page", 0, None)?;
+    compare(&rt, TypeDef::from(&def), "Page", false);
+    note(
+        &mut def.methods,
+        &mut def.special_method_presence,
+        &mut def.attrs,
+        method,
+    )?;
+    compare(&rt, TypeDef::from(&def), "Page", true);
+    Ok(())
+}
+
+#[test]
+fn enums_are_asked_as_types(rt: HostRuntime) -> Result<(), Fail> {
+    let alloc = rt.alloc();
+    let method = function(alloc, "find")?;
+    let mut def = enumeration(alloc, "Color")?;
+    compare(&rt, TypeDef::from(&def), "Color", false);
+    note(
+        &mut def.methods,
+        &mut def.special_method_presence,
+        &mut def.attrs,
+        method,
+    )?;
+    compare(&rt, TypeDef::from(&def), "Color", true);
+    Ok(())
+}
