@@ -62,7 +62,7 @@ fn page(alloc: Global, owner: MaybeOwn) -> Result<OutType, Fail> {
 }
 
 /// A writer of that.
-fn row(writes_16: bool, primitive: Option<PrimitiveType>) -> Row {
+fn writer(writes_16: bool, primitive: Option<PrimitiveType>) -> Row {
     Row {
         writes: true,
         writes_16,
@@ -73,19 +73,27 @@ fn row(writes_16: bool, primitive: Option<PrimitiveType>) -> Row {
 
 #[test]
 fn writers_are_no_values(rt: HostRuntime) {
-    compare(&rt, &SuccessType::Write(WriteType::Str), &row(false, None));
-    compare(&rt, &SuccessType::Write(WriteType::Str16), &row(true, None));
+    compare(
+        &rt,
+        &SuccessType::Write(WriteType::Str),
+        &writer(false, None),
+    );
+    compare(
+        &rt,
+        &SuccessType::Write(WriteType::Str16),
+        &writer(true, None),
+    );
     let wide = PrimitiveType::Int(IntType::U64);
     compare(
         &rt,
         &SuccessType::Write(WriteType::Primitive(wide)),
-        &row(false, Some(wide)),
+        &writer(false, Some(wide)),
     );
 }
 
 #[test]
 fn types_and_units_are_not_written(rt: HostRuntime) {
-    let mut row = row(false, None);
+    let mut row = writer(false, None);
     row.writes = false;
     compare(
         &rt,
