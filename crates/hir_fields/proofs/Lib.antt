@@ -1,0 +1,9 @@
+pub mod FieldLemmas
+pub mod HeadLemmas
+pub mod JudgeLemmas
+pub mod NamedLemmas
+pub mod Pairing
+pub mod SafetyLemmas
+pub mod SoFar
+pub mod TypeLemmas
+pub mod Zipping

@@ -1,0 +1,23 @@
+-- What a field has beside its type, and a variant beside its number: a name, marks and documents.
+use Rattle.std.specs.Prelude.{ℕ, List, ◌++◌}
+use Rattle.std.specs.List.{flat_map}
+use Rattle.bridge_decl.specs.declared.attrs.Attrs.{Attrs as DeclaredAttrs}
+use Rattle.bridge_decl.specs.declared.docs.Docs.{Docs as DeclaredDocs}
+use Rattle.bridge_decl.specs.declared.structs.Field.{Field}
+use Rattle.hir_attrs.specs.Attrs.{empty_attrs}
+use Rattle.hir_attrs.specs.declared.attrs.Attrs.{Attrs}
+use Rattle.hir_backends.specs.Backend.{Backend}
+use Rattle.hir_heads.specs.Heads.{notes_errors}
+use Rattle.hir_heads.specs.Names.{name_errors}
+use Rattle.hir_reports.specs.declared.report.LoweringError.{LoweringError}
+
+-- that its name is no identifier, and then what its marks break, which start from this set, and the conditions of its documents
+abbrev pub head_errors : Backend → Attrs → List ℕ → DeclaredDocs → DeclaredAttrs → List LoweringError
+head_errors backend start name docs attrs = name_errors name ++ notes_errors backend start docs attrs
+
+-- those of fields, in order: the marks of each start from the empty set
+abbrev pub field_head_errors : Backend → Field → List LoweringError
+field_head_errors backend field = head_errors backend empty_attrs field.name field.docs field.attrs
+
+abbrev pub field_heads_errors : Backend → List Field → List LoweringError
+field_heads_errors backend fields = flat_map (field_head_errors backend) fields

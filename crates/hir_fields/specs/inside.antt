@@ -1,0 +1,5 @@
+pub mod Gathering
+pub mod Heads
+pub mod Kinds
+pub mod Numbering
+pub mod Pairs
