@@ -1,7 +1,6 @@
 -- Fields of what else they have and their types.
-use Rattle.std.proofs.Common.{◌≡◌, ◌≢◌, ℕ, List, [], ◌∷◌, ◌++◌, length, map, Option, Some, None, Result, Ok, Err, refl, sym, ap, subst, ◌∙◌}
-use Rattle.std.specs.Prelude.{⊤, IfOk, IfSome, IsNone, IsSome, option_map}
-use Rattle.std.specs.List.{zip}
+use Rattle.std.proofs.Common.{◌≡◌, ℕ, List, [], ◌∷◌, ◌++◌, length, map, Option, Some, None, Result, Ok, Err, refl, sym, ap, subst, ◌∙◌}
+use Rattle.std.specs.Prelude.{IfOk, IfSome, IsNone, IsSome, option_map}
 use Rattle.hir_reports.specs.declared.report.LoweringError.{LoweringError}
 use Rattle.hir_fields.proofs.SoFar.{back_none, front_none}
 use Rattle.hir_fields.specs.Told.{GivenUnlessTold}
@@ -26,9 +25,11 @@ joined_given : {X A B C : Type 0} (make : A → B → C) (head : X → A) (xs : 
 joined_given make head xs form None types is some same = absurd cc
 joined_given make head xs form (Some hs) None is some same = absurd cc
 joined_given make head xs form (Some hs) (Some ts) is some same =
-    let here : hs ≡ map head xs = cc in
-    (refl, ap (option_map (λ ys. zipped (λ x y. make (head x) y) xs ys)) same
-        ∙ ap (λ zs. Some zs) (sym (zipped_map make head xs ts) ∙ ap (λ ys. zipped make ys ts) (sym here)))
+    let here : hs ≡ map head xs = cc in (
+      refl,
+      ap (option_map (λ ys. zipped (λ x y. make (head x) y) xs ys)) same
+          ∙ ap (λ zs. Some zs) (sym (zipped_map make head xs ts) ∙ ap (λ ys. zipped make ys ts) (sym here)),
+    )
 
 -- the fields are made where nothing is told of them or of the lifetimes
 fields_given : {X A B C : Type 0} (make : A → B → C) (head : X → A) (xs : List X) (form : Option (List B)) (heads : Option (List A)) (types : Option (List B))

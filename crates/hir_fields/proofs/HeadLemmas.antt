@@ -1,5 +1,5 @@
 -- What is made of a name with marks and documents.
-use Rattle.std.proofs.Common.{◌≡◌, ℕ, List, [], ◌∷◌, ◌++◌, Option, Some, None, refl, sym, ap, ◌∙◌}
+use Rattle.std.proofs.Common.{◌≡◌, ℕ, List, [], Option, Some, None, sym, ◌∙◌}
 use Rattle.bridge_decl.specs.declared.attrs.Attrs.{Attrs as DeclaredAttrs}
 use Rattle.bridge_decl.specs.declared.docs.Docs.{Docs as DeclaredDocs}
 use Rattle.hir_attrs.specs.declared.attrs.Attrs.{Attrs}
@@ -7,7 +7,6 @@ use Rattle.hir_backends.specs.Backend.{Backend}
 use Rattle.hir_fields.proofs.SoFar.{front_none}
 use Rattle.hir_fields.specs.Heads.{head_errors}
 use Rattle.hir_fields.specs.inside.Heads.{head_form}
-use Rattle.hir_fields.specs.declared.heads.Head.{Head}
 use Rattle.hir_heads.specs.Heads.{notes_errors, notes_form}
 use Rattle.hir_heads.specs.Names.{name_errors}
 use Rattle.hir_heads.specs.Told.{MadeUnlessTold}

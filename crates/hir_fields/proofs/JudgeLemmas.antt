@@ -1,6 +1,6 @@
 -- The type of a field, told and made.
-use Rattle.std.proofs.Common.{◌≡◌, ◌≢◌, List, [], ◌∷◌, ◌++◌, map, Option, Some, None, Result, Ok, Err, refl, ap, subst, sym, ◌∙◌}
-use Rattle.std.specs.Prelude.{IfOk, IsSome, OnErr, OnOk}
+use Rattle.std.proofs.Common.{◌≡◌, List, [], ◌∷◌, ◌++◌, map, Option, Some, None, Result, Ok, Err, refl, ap, subst, sym, ◌∙◌}
+use Rattle.std.specs.Prelude.{IfOk, OnErr, OnOk}
 use Rattle.bridge_grid.specs.Telling.{fault_error}
 use Rattle.bridge_grid.specs.declared.fault.TypeFault.{TypeFault}
 use Rattle.hir_form.specs.Judging.{IsJudged}

@@ -1,6 +1,6 @@
 -- The test of a field's type decides what `IsFfiSafe` says.
-use Rattle.std.proofs.Common.{◌≡◌, ℕ, List, [], ◌∷◌, ◌++◌, Bool, true, false, refl, sym, ap, ◌∙◌}
-use Rattle.std.specs.Prelude.{◌==◌, not, if◌then◌else◌}
+use Rattle.std.proofs.Common.{◌≡◌, ℕ, List, [], ◌∷◌, Bool, true, false, refl, ◌∙◌}
+use Rattle.std.specs.Prelude.{not, if◌then◌else◌}
 use Rattle.std.specs.Bool.{Decides}
 use Rattle.bridge_decl.specs.declared.types.StdlibOrDiplomat.{StdlibOrDiplomat}
 use Rattle.bridge_decl.specs.declared.types.StdlibOrDiplomat.TheVariants.{Stdlib, Diplomat}
@@ -11,7 +11,6 @@ use Rattle.hir_number.specs.declared.numbered.NumberedType.{NumberedType, out-Nu
 use Rattle.hir_number.specs.declared.numbered.NumberedType.TheOpen.{NumberedType-F}
 use Rattle.hir_reports.proofs.StoreLaws.{added_nothing}
 use Rattle.hir_reports.specs.Store.{Held, added, gained}
-use Rattle.hir_reports.specs.declared.report.LoweringError.{LoweringError}
 use Rattle.hir_fields.specs.Safety.{is_own_spelling, is_safe, is_safe_level, safety_errors}
 
 own_spelling : (d : StdlibOrDiplomat) → Decides (is_own_spelling d) (d ≡ Diplomat)

@@ -2,7 +2,7 @@
 use Rattle.std.proofs.Common.{◌≡◌, ℕ, ◌+◌, ◌<◌, ◌≤◌, List, [], ◌∷◌, ◌++◌, length, length-append, map, take, get_or, Option, Some, None, refl, sym, ap, subst, ◌∙◌}
 use Rattle.std.specs.Prelude.{IfSome, IsSome, option_map}
 use Rattle.std.specs.List.{flat_map}
-use Rattle.std.proofs.lemmas.List.{append_assoc, flat_map_more, map-append, take_all, take_more}
+use Rattle.std.proofs.lemmas.List.{flat_map_more, map-append, take_all, take_more}
 use Rattle.hir_form.specs.ParamForms.{all_given}
 use Rattle.hir_reports.proofs.StoreLaws.{added_nothing, added_step}
 use Rattle.hir_reports.specs.Store.{Held, Keeps, added}
@@ -72,9 +72,10 @@ module _ {X A : Type 0} (told : X → List LoweringError) (form : X → Option A
     given = λ none.
         let both = sym (told_more xs i d within) ∙ none in
         let before = so.given (front_none (flat_map told (take i xs)) (told (get_or xs i d)) both) in
-        let here = is (back_none (flat_map told (take i xs)) (told (get_or xs i d)) both) in
-        (some_after made next before.0 here.0,
-          given_more xs i d within ∙ ap (λ m. given_after m (form (get_or xs i d))) before.1 ∙ ap (given_after made) here.1);
+        let here = is (back_none (flat_map told (take i xs)) (told (get_or xs i d)) both) in (
+          some_after made next before.0 here.0,
+          given_more xs i d within ∙ ap (λ m. given_after m (form (get_or xs i d))) before.1 ∙ ap (given_after made) here.1,
+        );
     each =
         subst (λ k. IfSome (given_after made next) (λ parts. length parts ≡ k))
         (sym (ap length (take_more xs i d within) ∙ length-append (take i xs) (get_or xs i d ∷ [])))

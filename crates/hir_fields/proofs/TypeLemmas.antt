@@ -1,5 +1,5 @@
 -- What is told of the types of fields, and made of them, by how far they come.
-use Rattle.std.proofs.Common.{◌≡◌, ◌≢◌, ℕ, List, [], ◌∷◌, ◌++◌, length, map, Option, Some, None, Result, Ok, Err, refl, sym, ap, subst, ◌∙◌}
+use Rattle.std.proofs.Common.{◌≡◌, ◌≢◌, List, [], ◌∷◌, ◌++◌, map, Option, Result, Ok, Err, refl, sym, ap, subst, ◌∙◌}
 use Rattle.std.specs.Prelude.{IfErr, IfOk, OnOk}
 use Rattle.bridge_decl.specs.declared.lifetimes.LifetimeEnv.{LifetimeEnv}
 use Rattle.bridge_decl.specs.declared.structs.Field.{Field}
@@ -13,7 +13,7 @@ use Rattle.hir_number.specs.Faults.{FaultTold, IsOfElision}
 use Rattle.hir_number.specs.Naming.{Naming}
 use Rattle.hir_number.specs.Numbered.{AreNumberedFields, numbers_of_each}
 use Rattle.hir_number.specs.Numbers.{signature_numbers}
-use Rattle.hir_number.specs.Shapes.{NumberLists, bare, shape}
+use Rattle.hir_number.specs.Shapes.{NumberLists}
 use Rattle.hir_number.specs.Signatures.{field_uses}
 use Rattle.hir_number.specs.declared.fault.NumberFault.{NumberFault}
 use Rattle.hir_number.specs.declared.fault.NumberFault.TheVariants as fault
@@ -23,7 +23,6 @@ use Rattle.hir_reports.specs.Store.{Held, added}
 use Rattle.hir_reports.specs.declared.report.LoweringError.{LoweringError}
 use Rattle.hir_signatures.specs.Errors.{breach_error, number_errors}
 use Rattle.hir_stages.proofs.Filled.{fields_are_filled}
-use Rattle.hir_stages.specs.Numbering.{filled_fields}
 use Rattle.hir_fields.proofs.SoFar.{back_none, front_none}
 use Rattle.hir_fields.specs.Told.{GivenUnlessTold}
 use Rattle.hir_fields.specs.Types.{TypeErrors, each_errors, else_told, field_types_form, numbered_errors, numbered_form, types_errors, unless_told}
@@ -93,9 +92,10 @@ module _ (errors : TypeErrors) (names : Naming) (item : Struct) where
       → GivenUnlessTold (lifetime_errors item.lifetimes ++ types_errors errors names item) (field_types_form form names item) made
   numbered_given form (Ok types) made is judged = λ none.
       let nothing = numbered_told (Ok types) is ∙ back_none (lifetime_errors item.lifetimes) (types_errors errors names item) none in
-      let all = judged nothing in
-      (all.0,
-        ap (numbered_form form names item) is.numbered.numbers ∙ ap (λ ts. all_given (map form ts)) (sym (fields_are_filled names item types is.numbered)) ∙ all.1)
+      let all = judged nothing in (
+        all.0,
+        ap (numbered_form form names item) is.numbered.numbers ∙ ap (λ ts. all_given (map form ts)) (sym (fields_are_filled names item types is.numbered)) ∙ all.1,
+      )
   numbered_given form (Err e) made is judged = λ none.
       let nothing = numbered_told (Err e) is ∙ back_none (lifetime_errors item.lifetimes) (types_errors errors names item) none in
       absurd ((of_numbers item.lifetimes (signature_numbers item.lifetimes (field_uses names item.fields)) e is.idents is.elision is.faulted (λ h. is.memory (ap (λ x. Err x) h))).1 nothing)

@@ -18,7 +18,6 @@ use Rattle.hir_form.specs.ParamForms.{field_form, out_type_form}
 use Rattle.hir_ids.specs.declared.owners.Borrow.{Borrow}
 use Rattle.hir_ids.specs.declared.owners.MaybeOwn.{MaybeOwn}
 use Rattle.hir_number.specs.Naming.{Naming}
-use Rattle.hir_number.specs.declared.numbered.NumberedType.{NumberedType}
 use Rattle.hir_reports.specs.declared.report.LoweringError.{LoweringError}
 use Rattle.hir_types.specs.declared.callbacks.NoCallback.{NoCallback}
 use Rattle.hir_types.specs.declared.paths.NoTraitPath.{NoTraitPath}

@@ -109,7 +109,9 @@ pub enum OfOutStruct {}
 
 impl Joins for OfStruct {
     type First = Head;
+
     type Second = HirType<Everywhere>;
+
     type Both = StructField<Everywhere>;
 
     ghost both = { with_type };
@@ -121,7 +123,9 @@ impl Joins for OfStruct {
 
 impl Joins for OfOutStruct {
     type First = Head;
+
     type Second = OutType;
+
     type Both = OutStructField;
 
     ghost both = { with_type };
@@ -133,6 +137,7 @@ impl Joins for OfOutStruct {
 
 impl FieldKind for OfStruct {
     type Type = HirType<Everywhere>;
+
     type Field = StructField<Everywhere>;
 
     ghost type_errors = { struct_type_errors };
@@ -168,6 +173,7 @@ impl FieldKind for OfStruct {
 
 impl FieldKind for OfOutStruct {
     type Type = OutType;
+
     type Field = OutStructField;
 
     ghost type_errors = { out_type_errors };

@@ -2,6 +2,7 @@
 
 ghost use Rattle.std.specs.Prelude.{◌≡◌, IfOk, OnOk};
 ghost use Rattle.hir_fields.specs.Variants.{variant_errors, variant_form, variants_errors, variants_form};
+ghost use Rattle.hir_fields.specs.inside.Kinds.{variant_with};
 ghost use Rattle.hir_heads.specs.Told.{MadeUnlessTold};
 ghost use Rattle.hir_reports.specs.Store.{Held, Keeps, added};
 
@@ -17,8 +18,7 @@ use std::alloc::Global;
 
 /// A variant with what it has beside its number.
 fn variant_with(head: Head, discriminant: i64) -> EnumVariant
-    ensures { result ≡ record { docs = head.notes.docs; name = head.name;
-        discriminant = discriminant; attrs = head.notes.attrs } }
+    ensures { result ≡ variant_with head discriminant }
 {
     let Head { name, notes } = head;
     let Notes { docs, attrs } = notes;

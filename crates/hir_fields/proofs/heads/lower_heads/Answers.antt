@@ -1,5 +1,4 @@
 use Rattle.std.proofs.Common.{◌≡◌, Some, subst}
-use Rattle.hir_attrs.specs.Attrs.{empty_attrs}
 use Rattle.hir_heads.specs.Told.{MadeUnlessTold}
 use Rattle.hir_reports.specs.Store.{added}
 use Rattle.hir_fields.proofs.SoFar.{ends_made, given_made, goes_on_at}

@@ -1,6 +1,6 @@
 use Rattle.std.proofs.Common.{[], ◌∷◌, length, arith, ap, sym, ◌∙◌}
 use Rattle.std.proofs.lemmas.List.{append-nil, length-append}
-use Rattle.hir_fields.proofs.Zipping.{one_fewer, some_left, taken_last, zipped_all, zipped_more}
+use Rattle.hir_fields.proofs.Zipping.{some_left, zipped_all}
 use Rattle.hir_fields.proofs.joining.join_all.Goals as goal
 
 pub loop-first-init : goal.loop-first-init

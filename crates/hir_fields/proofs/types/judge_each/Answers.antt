@@ -1,4 +1,4 @@
-use Rattle.std.proofs.Common.{◌≡◌, arith, length, map, sym, subst, ◌∙◌}
+use Rattle.std.proofs.Common.{◌≡◌, arith, length, sym, subst}
 use Rattle.std.specs.Prelude.{IfSome}
 use Rattle.std.specs.List.{zip}
 use Rattle.bridge_decl.specs.declared.structs.Field.{Field}

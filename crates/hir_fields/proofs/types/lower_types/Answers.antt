@@ -20,7 +20,7 @@ returns-then-not-branch-clause-given g c = λ names is.
 pub returns-clause-told : goal.returns-clause-told
 returns-clause-told g c = λ names is.
     let none : field_breaches names c.args.item.now ≡ [] =
-        subst (λ b. MatchBool b (field_breaches names c.args.item.now ≡ []) (field_breaches names c.args.item.now ≢ [])) c.if-not-branch.false (c.in_ok-test_fields.ensures.fine names is) in
+    subst (λ b. MatchBool b (field_breaches names c.args.item.now ≡ []) (field_breaches names c.args.item.now ≢ [])) c.if-not-branch.false (c.in_ok-test_fields.ensures.fine names is) in
     told_ok (g.K.FieldKind.type_errors c.args.support.now c.args.catalog.now) names c.args.item.now c.judge_numbered.result c.number_each-numbered.result c.as_slice-fields.result.now c.args.errors.now
     c.test_fields.new.errors c.judge_numbered.new.errors c.as_slice-fields.ensures (c.in_ok-test_fields.ensures.told names is) none
     (λ other. record {
@@ -36,7 +36,7 @@ returns-clause-told g c = λ names is.
 pub returns-clause-given : goal.returns-clause-given
 returns-clause-given g c = λ names is.
     let none : field_breaches names c.args.item.now ≡ [] =
-        subst (λ b. MatchBool b (field_breaches names c.args.item.now ≡ []) (field_breaches names c.args.item.now ≢ [])) c.if-not-branch.false (c.in_ok-test_fields.ensures.fine names is) in
+    subst (λ b. MatchBool b (field_breaches names c.args.item.now ≡ []) (field_breaches names c.args.item.now ≢ [])) c.if-not-branch.false (c.in_ok-test_fields.ensures.fine names is) in
     given_ok (g.K.FieldKind.type_errors c.args.support.now c.args.catalog.now) names c.args.item.now (g.K.FieldKind.type_form c.args.catalog.now) c.judge_numbered.result c.number_each-numbered.result
     c.as_slice-fields.result.now c.as_slice-fields.ensures
     (λ other. record {
