@@ -3,7 +3,7 @@ use Rattle.std.proofs.Common.{◌≡◌, ℕ, List, [], ◌∷◌, ◌++◌, len
 use Rattle.std.specs.Prelude.{IfOk, IfSome, IsNone, IsSome, option_map}
 use Rattle.hir_reports.specs.declared.report.LoweringError.{LoweringError}
 use Rattle.hir_fields.proofs.SoFar.{back_none, front_none}
-use Rattle.hir_fields.specs.Told.{GivenUnlessTold}
+use Rattle.hir_fields.specs.Told.{StandsUnlessTold}
 use Rattle.hir_heads.specs.Told.{MadeUnlessTold}
 use Rattle.hir_fields.specs.inside.Pairs.{HaveOneLength, zipped, zipped_where_given}
 
@@ -34,8 +34,8 @@ joined_given make head xs form (Some hs) (Some ts) is some same =
 -- the fields are made where nothing is told of them or of the lifetimes
 fields_given : {X A B C : Type 0} (make : A → B → C) (head : X → A) (xs : List X) (form : Option (List B)) (heads : Option (List A)) (types : Option (List B))
     (made : Option (List C)) (of_lifetimes of_heads of_types : List LoweringError) → MadeUnlessTold of_heads (map head xs) heads
-    → GivenUnlessTold (of_lifetimes ++ of_types) form types → made ≡ zipped_where_given make heads types
-    → GivenUnlessTold (of_lifetimes ++ (of_heads ++ of_types)) (option_map (λ ts. zipped (λ x y. make (head x) y) xs ts) form) made
+    → StandsUnlessTold (of_lifetimes ++ of_types) form types → made ≡ zipped_where_given make heads types
+    → StandsUnlessTold (of_lifetimes ++ (of_heads ++ of_types)) (option_map (λ ts. zipped (λ x y. make (head x) y) xs ts) form) made
 fields_given make head xs form heads types made of_lifetimes of_heads of_types headed typed is = λ none.
     let lives = front_none of_lifetimes (of_heads ++ of_types) none in
     let rest = back_none of_lifetimes (of_heads ++ of_types) none in
@@ -53,8 +53,8 @@ fields_absent make (Some hs) (Some ts) made none is = absurd cc
 -- so, by the answer of a call that may want memory
 pub fields_given_ok : {X A B C E : Type 0} (make : A → B → C) (head : X → A) (xs : List X) (form : Option (List B)) (heads : Option (List A)) (types : Option (List B))
     (result : Result (Option (List C)) E) (of_lifetimes of_heads of_types : List LoweringError) → MadeUnlessTold of_heads (map head xs) heads
-    → GivenUnlessTold (of_lifetimes ++ of_types) form types → IfOk result (λ made. made ≡ zipped_where_given make heads types)
-    → IfOk result (GivenUnlessTold (of_lifetimes ++ (of_heads ++ of_types)) (option_map (λ ts. zipped (λ x y. make (head x) y) xs ts) form))
+    → StandsUnlessTold (of_lifetimes ++ of_types) form types → IfOk result (λ made. made ≡ zipped_where_given make heads types)
+    → IfOk result (StandsUnlessTold (of_lifetimes ++ (of_heads ++ of_types)) (option_map (λ ts. zipped (λ x y. make (head x) y) xs ts) form))
 fields_given_ok make head xs form heads types (Ok made) of_lifetimes of_heads of_types headed typed is =
     fields_given make head xs form heads types made of_lifetimes of_heads of_types headed typed is
 fields_given_ok make head xs form heads types (Err e) of_lifetimes of_heads of_types headed typed is = tt

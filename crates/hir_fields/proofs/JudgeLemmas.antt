@@ -9,7 +9,7 @@ use Rattle.hir_reports.proofs.StoreLaws.{added_more}
 use Rattle.hir_reports.specs.Store.{Held, Keeps, added}
 use Rattle.hir_reports.specs.declared.report.LoweringError.{LoweringError}
 use Rattle.hir_fields.proofs.SoFar.{back_none}
-use Rattle.hir_fields.specs.Told.{GivenUnlessTold}
+use Rattle.hir_fields.specs.Told.{StandsUnlessTold}
 
 -- what is told after something else comes behind it
 pub both_told : {A E : Type 0} (result : Result A E) (old mid new : Held) (first second : List LoweringError) → mid ≡ added old first
@@ -22,22 +22,22 @@ none_mapped [] h = refl
 none_mapped (f ∷ fs) h = absurd cc
 
 judged : {T : Type 0} (first : List LoweringError) (faults : List TypeFault) (form made : Option T) → IsJudged faults form made
-    → GivenUnlessTold (first ++ map fault_error faults) form made
+    → StandsUnlessTold (first ++ map fault_error faults) form made
 judged first faults form (Some x) is = λ none. (refl, is.1)
 judged first faults form None is = λ none. absurd (is (none_mapped faults (back_none first (map fault_error faults) none)))
 
 -- what a type stands for is made unless something is told of it
 pub judged_given : {T E : Type 0} (result : Result (Option T) E) (first : List LoweringError) (faults : List TypeFault) (form : Option T)
-    → IfOk result (IsJudged faults form) → IfOk result (GivenUnlessTold (first ++ map fault_error faults) form)
+    → IfOk result (IsJudged faults form) → IfOk result (StandsUnlessTold (first ++ map fault_error faults) form)
 judged_given (Ok made) first faults form is = judged first faults form made is
 judged_given (Err e) first faults form is = tt
 
-judged_alone : {T : Type 0} (faults : List TypeFault) (form made : Option T) → IsJudged faults form made → GivenUnlessTold (map fault_error faults) form made
+judged_alone : {T : Type 0} (faults : List TypeFault) (form made : Option T) → IsJudged faults form made → StandsUnlessTold (map fault_error faults) form made
 judged_alone faults form (Some x) is = λ none. (refl, is.1)
 judged_alone faults form None is = λ none. absurd (is (none_mapped faults none))
 
 pub judged_given_alone : {T E : Type 0} (result : Result (Option T) E) (faults : List TypeFault) (form : Option T)
-    → IfOk result (IsJudged faults form) → IfOk result (GivenUnlessTold (map fault_error faults) form)
+    → IfOk result (IsJudged faults form) → IfOk result (StandsUnlessTold (map fault_error faults) form)
 judged_given_alone (Ok made) faults form is = judged_alone faults form made is
 judged_given_alone (Err e) faults form is = tt
 

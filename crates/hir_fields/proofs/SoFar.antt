@@ -7,7 +7,7 @@ use Rattle.hir_form.specs.ParamForms.{all_given}
 use Rattle.hir_reports.proofs.StoreLaws.{added_nothing, added_step}
 use Rattle.hir_reports.specs.Store.{Held, Keeps, added}
 use Rattle.hir_reports.specs.declared.report.LoweringError.{LoweringError}
-use Rattle.hir_fields.specs.Told.{GivenUnlessTold}
+use Rattle.hir_fields.specs.Told.{StandsUnlessTold}
 use Rattle.hir_heads.specs.Told.{MadeUnlessTold}
 use Rattle.hir_fields.specs.inside.Gathering.{given_after}
 
@@ -48,7 +48,7 @@ module _ {X A : Type 0} (told : X → List LoweringError) (form : X → Option A
   -- so far the first elements are told and made
   pub record SoFar (xs : List X) (i : ℕ) (start now : Held) (made : Option (List A)) : Type 0 where
     pub errors : now ≡ added start (flat_map told (take i xs))
-    pub given : GivenUnlessTold (flat_map told (take i xs)) (all_given (map form (take i xs))) made
+    pub given : StandsUnlessTold (flat_map told (take i xs)) (all_given (map form (take i xs))) made
     pub each : IfSome made (λ parts. length parts ≡ length (take i xs))
     pub kept : (earlier : Held) → Keeps earlier start → Keeps earlier now
 
@@ -65,7 +65,7 @@ module _ {X A : Type 0} (told : X → List LoweringError) (form : X → Option A
       ∙ all_given_more (map form (take i xs)) (form (get_or xs i d))
 
   pub goes_on : (xs : List X) (i : ℕ) (d : X) (start old new : Held) (made : Option (List A)) (next : Option A) → SoFar xs i start old made → i < length xs
-      → new ≡ added old (told (get_or xs i d)) → GivenUnlessTold (told (get_or xs i d)) (form (get_or xs i d)) next
+      → new ≡ added old (told (get_or xs i d)) → StandsUnlessTold (told (get_or xs i d)) (form (get_or xs i d)) next
       → ((earlier : Held) → Keeps earlier old → Keeps earlier new) → SoFar xs (i + 1) start new (given_after made next)
   goes_on xs i d start old new made next so within step is keeps = record {
     errors = added_step told start old new xs i d within so.errors step;
@@ -85,11 +85,11 @@ module _ {X A : Type 0} (told : X → List LoweringError) (form : X → Option A
 
   -- so, where the element is lent and the list grows by a call
   pub goes_on_at : (xs : List X) (i : ℕ) (x : X) (start old new : Held) (made after : Option (List A)) (next : Option A) → SoFar xs i start old made → i < length xs
-      → x ≡ get_or xs i x → new ≡ added old (told x) → GivenUnlessTold (told x) (form x) next → ((earlier : Held) → Keeps earlier old → Keeps earlier new)
+      → x ≡ get_or xs i x → new ≡ added old (told x) → StandsUnlessTold (told x) (form x) next → ((earlier : Held) → Keeps earlier old → Keeps earlier new)
       → after ≡ given_after made next → SoFar xs (i + 1) start new after
   goes_on_at xs i x start old new made after next so within is step given keeps grown =
       subst (SoFar xs (i + 1) start new) (sym grown)
-      (goes_on xs i x start old new made next so within (subst (λ y. new ≡ added old (told y)) is step) (subst (λ y. GivenUnlessTold (told y) (form y) next) is given) keeps)
+      (goes_on xs i x start old new made next so within (subst (λ y. new ≡ added old (told y)) is step) (subst (λ y. StandsUnlessTold (told y) (form y) next) is given) keeps)
 
   -- all is told
   pub ends : (xs : List X) (i : ℕ) (start now : Held) (made : Option (List A)) → SoFar xs i start now made → length xs ≤ i → now ≡ added start (flat_map told xs)
@@ -100,15 +100,15 @@ module _ {X A : Type 0} (told : X → List LoweringError) (form : X → Option A
   ends_each xs i start now made so past = subst (λ ys. IfSome made (λ parts. length parts ≡ length ys)) (take_all i xs past) so.each
 
   pub ends_given : (xs : List X) (i : ℕ) (start now : Held) (made : Option (List A)) → SoFar xs i start now made → length xs ≤ i
-      → GivenUnlessTold (flat_map told xs) (all_given (map form xs)) made
-  ends_given xs i start now made so past = subst (λ ys. GivenUnlessTold (flat_map told ys) (all_given (map form ys)) made) (take_all i xs past) so.given
+      → StandsUnlessTold (flat_map told xs) (all_given (map form xs)) made
+  ends_given xs i start now made so past = subst (λ ys. StandsUnlessTold (flat_map told ys) (all_given (map form ys)) made) (take_all i xs past) so.given
 
 -- where each element stands for something
 all_some : {X A : Type 0} (form : X → A) (xs : List X) → all_given (map (λ x. Some (form x)) xs) ≡ Some (map form xs)
 all_some form [] = refl
 all_some form (x ∷ xs) = ap (option_map (λ rest. form x ∷ rest)) (all_some form xs)
 
-pub given_made : {A : Type 0} (errors : List LoweringError) (form : A) (made : Option A) → MadeUnlessTold errors form made → GivenUnlessTold errors (Some form) made
+pub given_made : {A : Type 0} (errors : List LoweringError) (form : A) (made : Option A) → MadeUnlessTold errors form made → StandsUnlessTold errors (Some form) made
 given_made errors form made is = λ none. (subst IsSome (sym (is none)) refl, sym (is none))
 
 pub ends_made : {X A : Type 0} (told : X → List LoweringError) (form : X → A) (xs : List X) (i : ℕ) (start now : Held) (made : Option (List A))

@@ -24,8 +24,8 @@ use Rattle.hir_reports.specs.declared.report.LoweringError.{LoweringError}
 use Rattle.hir_signatures.specs.Errors.{breach_error, number_errors}
 use Rattle.hir_stages.proofs.Filled.{fields_are_filled}
 use Rattle.hir_fields.proofs.SoFar.{back_none, front_none}
-use Rattle.hir_fields.specs.Told.{GivenUnlessTold}
-use Rattle.hir_fields.specs.Types.{TypeErrors, each_errors, else_told, field_types_form, numbered_errors, numbered_form, types_errors, unless_told}
+use Rattle.hir_fields.specs.Told.{StandsUnlessTold}
+use Rattle.hir_fields.specs.Types.{TypeErrors, each_errors, else_told, field_types_form, numbered_errors, numbered_form, types_errors, where_named}
 use Rattle.hir_fields.specs.inside.Numbering.{JudgedWhereNumbered, result_errors}
 
 -- ---- with breaches
@@ -40,7 +40,7 @@ none_mapped (b ∷ bs) h = absurd cc
 
 -- ---- without
 
-nothing_more : (first later : List LoweringError) → first ≢ [] → unless_told first later ≡ []
+nothing_more : (first later : List LoweringError) → first ≢ [] → where_named first later ≡ []
 nothing_more [] later some = absurd (some refl)
 nothing_more (e ∷ es) later some = refl
 
@@ -73,8 +73,8 @@ module _ (errors : TypeErrors) (names : Naming) (item : Struct) where
   stage_left : field_breaches names item ≡ [] → lifetime_errors item.lifetimes ≡ [] → (r : Result NumberLists NumberFault)
       → signature_numbers item.lifetimes (field_uses names item.fields) ≡ r → types_errors errors names item ≡ numbered_errors errors names item r
   stage_left unbreached unnamed r same =
-      ap (λ bs. else_told (map breach_error bs) (unless_told (lifetime_errors item.lifetimes) (numbered_errors errors names item (signature_numbers item.lifetimes (field_uses names item.fields))))) unbreached
-      ∙ ap (λ es. unless_told es (numbered_errors errors names item (signature_numbers item.lifetimes (field_uses names item.fields)))) unnamed
+      ap (λ bs. else_told (map breach_error bs) (where_named (lifetime_errors item.lifetimes) (numbered_errors errors names item (signature_numbers item.lifetimes (field_uses names item.fields))))) unbreached
+      ∙ ap (λ es. where_named es (numbered_errors errors names item (signature_numbers item.lifetimes (field_uses names item.fields)))) unnamed
       ∙ ap (numbered_errors errors names item) same
 
   -- so that is told
@@ -89,7 +89,7 @@ module _ (errors : TypeErrors) (names : Naming) (item : Struct) where
   -- and what the types stand for is made
   pub numbered_given : {T : Type 0} (form : NumberedType → Option T) (r : Result (List NumberedType) NumberFault) (made : Option (List T)) → IsNumbering r
       → JudgedWhereNumbered errors form item.fields r made
-      → GivenUnlessTold (lifetime_errors item.lifetimes ++ types_errors errors names item) (field_types_form form names item) made
+      → StandsUnlessTold (lifetime_errors item.lifetimes ++ types_errors errors names item) (field_types_form form names item) made
   numbered_given form (Ok types) made is judged = λ none.
       let nothing = numbered_told (Ok types) is ∙ back_none (lifetime_errors item.lifetimes) (types_errors errors names item) none in
       let all = judged nothing in (
@@ -105,7 +105,7 @@ module _ (errors : TypeErrors) (names : Naming) (item : Struct) where
   breaches_told some = else_first (map breach_error (field_breaches names item)) _ (λ h. some (none_mapped (field_breaches names item) h))
 
   pub breached_given : {T : Type 0} (form : Option (List T)) (made : Option (List T)) → field_breaches names item ≢ []
-      → GivenUnlessTold (lifetime_errors item.lifetimes ++ types_errors errors names item) form made
+      → StandsUnlessTold (lifetime_errors item.lifetimes ++ types_errors errors names item) form made
   breached_given form made some = λ none.
       absurd (some (none_mapped (field_breaches names item) (breaches_told some ∙ back_none (lifetime_errors item.lifetimes) (types_errors errors names item) none)))
 
@@ -113,11 +113,11 @@ module _ (errors : TypeErrors) (names : Naming) (item : Struct) where
   pub misnamed_told : field_breaches names item ≡ [] → lifetime_errors item.lifetimes ≢ [] → map breach_error (field_breaches names item) ≡ types_errors errors names item
   misnamed_told none some =
       ap (map breach_error) none
-      ∙ sym (ap (λ bs. else_told (map breach_error bs) (unless_told (lifetime_errors item.lifetimes) (numbered_errors errors names item (signature_numbers item.lifetimes (field_uses names item.fields))))) none
+      ∙ sym (ap (λ bs. else_told (map breach_error bs) (where_named (lifetime_errors item.lifetimes) (numbered_errors errors names item (signature_numbers item.lifetimes (field_uses names item.fields))))) none
       ∙ nothing_more (lifetime_errors item.lifetimes) _ some)
 
   pub misnamed_given : {T : Type 0} (form : Option (List T)) (made : Option (List T)) → lifetime_errors item.lifetimes ≢ []
-      → GivenUnlessTold (lifetime_errors item.lifetimes ++ types_errors errors names item) form made
+      → StandsUnlessTold (lifetime_errors item.lifetimes ++ types_errors errors names item) form made
   misnamed_given form made some = λ none. absurd (some (front_none (lifetime_errors item.lifetimes) (types_errors errors names item) none))
 
   -- so, by the answer of a call that may want memory
@@ -132,7 +132,7 @@ module _ (errors : TypeErrors) (names : Naming) (item : Struct) where
 
   pub given_ok : {T E : Type 0} (form : NumberedType → Option T) (result : Result (Option (List T)) E) (r : Result (List NumberedType) NumberFault) (fields : List Field) → fields ≡ item.fields
       → (r ≢ Err fault.NoMemory → IsNumbering r) → OnOk result (r ≢ Err fault.NoMemory) → IfOk result (JudgedWhereNumbered errors form fields r)
-      → IfOk result (GivenUnlessTold (lifetime_errors item.lifetimes ++ types_errors errors names item) (field_types_form form names item))
+      → IfOk result (StandsUnlessTold (lifetime_errors item.lifetimes ++ types_errors errors names item) (field_types_form form names item))
   given_ok form (Ok made) r fields same is memory judged =
       numbered_given form r made (is memory) (subst (λ fs. JudgedWhereNumbered errors form fs r made) same judged)
   given_ok form (Err e) r fields same is memory judged = tt

@@ -25,10 +25,10 @@ abbrev pub else_told : List LoweringError → List LoweringError → List Loweri
 else_told [] later = later
 else_told (e ∷ es) later = e ∷ es
 
--- nothing more, where something is told elsewhere
-abbrev pub unless_told : List LoweringError → List LoweringError → List LoweringError
-unless_told [] more = more
-unless_told (e ∷ es) more = []
+-- what is told where all declared names are identifiers: nothing where one isn't, which is told elsewhere
+abbrev pub where_named : List LoweringError → List LoweringError → List LoweringError
+where_named [] more = more
+where_named (e ∷ es) more = []
 
 -- each numbered type with the name of its field, in order
 abbrev pub each_errors : TypeErrors → List Field → List NumberedType → List LoweringError
@@ -44,7 +44,7 @@ numbered_errors errors names item (Err fault) = number_errors fault
 abbrev pub types_errors : TypeErrors → Naming → Struct → List LoweringError
 types_errors errors names item =
     else_told (map breach_error (field_breaches names item))
-    (unless_told (lifetime_errors item.lifetimes) (numbered_errors errors names item (signature_numbers item.lifetimes (field_uses names item.fields))))
+    (where_named (lifetime_errors item.lifetimes) (numbered_errors errors names item (signature_numbers item.lifetimes (field_uses names item.fields))))
 
 -- what all types stand for, by what each does, where they have these numbers
 abbrev pub numbered_form : {T : Type 0} → (NumberedType → Option T) → Naming → Struct → Result NumberLists NumberFault → Option (List T)

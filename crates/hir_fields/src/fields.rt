@@ -4,7 +4,7 @@ ghost use Rattle.std.specs.Prelude.{◌≡◌, ◌≢◌, ◌<◌, ◌++◌, [],
 ghost use Rattle.bridge_decl.specs.Lifetimes.{IsSoundEnvironment};
 ghost use Rattle.hir_fields.specs.Fields.{fields_errors, fields_form, out_fields_errors, out_fields_form};
 ghost use Rattle.hir_fields.specs.Heads.{field_heads_errors};
-ghost use Rattle.hir_fields.specs.Told.{GivenUnlessTold};
+ghost use Rattle.hir_fields.specs.Told.{StandsUnlessTold};
 ghost use Rattle.hir_fields.specs.Types.{field_types_form, types_errors};
 ghost use Rattle.hir_fields.specs.inside.Heads.{kind_fields};
 ghost use Rattle.hir_heads.specs.Heads.{lifetime_errors};
@@ -41,7 +41,7 @@ fn lower_kind<K: FieldKind, V: AttributeValidator>(
         ++ types_errors (K.type_errors (V.meaning validator.now).supports catalog.now)
         names item.now)) }
     ensures given { (names : Naming) → IsNaming env.now number names
-        → IfOk result (GivenUnlessTold (lifetime_errors item.now.lifetimes
+        → IfOk result (StandsUnlessTold (lifetime_errors item.now.lifetimes
         ++ (field_heads_errors (V.meaning validator.now) item.now.fields
         ++ types_errors (K.type_errors (V.meaning validator.now).supports catalog.now)
         names item.now))
@@ -76,7 +76,7 @@ pub fn lower_fields<V: AttributeValidator>(
         → OnOk result (errors.new ≡ added errors.old
         (fields_errors (V.meaning validator.now) catalog.now names item.now)) }
     ensures made { (names : Naming) → IsNaming env.now number names
-        → IfOk result (GivenUnlessTold (lifetime_errors item.now.lifetimes
+        → IfOk result (StandsUnlessTold (lifetime_errors item.now.lifetimes
         ++ fields_errors (V.meaning validator.now) catalog.now names item.now)
         (fields_form (V.meaning validator.now) catalog.now names item.now)) }
     ensures misnamed { lifetime_errors item.now.lifetimes ≢ []
@@ -103,7 +103,7 @@ pub fn lower_out_fields<V: AttributeValidator>(
         → OnOk result (errors.new ≡ added errors.old
         (out_fields_errors (V.meaning validator.now) catalog.now names item.now)) }
     ensures made { (names : Naming) → IsNaming env.now number names
-        → IfOk result (GivenUnlessTold (lifetime_errors item.now.lifetimes
+        → IfOk result (StandsUnlessTold (lifetime_errors item.now.lifetimes
         ++ out_fields_errors (V.meaning validator.now) catalog.now names item.now)
         (out_fields_form (V.meaning validator.now) catalog.now names item.now)) }
     ensures misnamed { lifetime_errors item.now.lifetimes ≢ []

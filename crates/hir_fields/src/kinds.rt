@@ -3,7 +3,7 @@
 ghost use Rattle.std.specs.Prelude.{◌≡◌, Option, IfOk, OnOk};
 ghost use Rattle.bridge_order.specs.declared.catalog.Catalog.{Catalog};
 ghost use Rattle.hir_fields.specs.Safety.{safety_errors};
-ghost use Rattle.hir_fields.specs.Told.{GivenUnlessTold};
+ghost use Rattle.hir_fields.specs.Told.{StandsUnlessTold};
 ghost use Rattle.hir_fields.specs.Types.{TypeErrors};
 ghost use Rattle.hir_fields.specs.Fields.{out_type_errors, struct_type_errors};
 ghost use Rattle.hir_fields.specs.inside.Kinds.{with_type};
@@ -56,7 +56,7 @@ pub trait FieldKind {
     ) -> Result<Option<Self::Type>, NoMemory>
         ensures told { OnOk result (errors.new ≡ added errors.old
             (type_errors support.now catalog.now name.now ty.now)) }
-        ensures given { IfOk result (GivenUnlessTold
+        ensures given { IfOk result (StandsUnlessTold
             (type_errors support.now catalog.now name.now ty.now)
             (type_form catalog.now ty.now)) }
         ensures kept { (earlier : Held) → Keeps earlier errors.old

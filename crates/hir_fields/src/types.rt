@@ -2,7 +2,7 @@
 
 ghost use Rattle.std.specs.Prelude.{◌≡◌, ◌≢◌, ◌<◌, ◌++◌, [], ⊤, Err, IfErr, IfOk, IfSome, IsNone, MatchBool, OnErr, OnOk, length, map};
 ghost use Rattle.bridge_decl.specs.Lifetimes.{IsSoundEnvironment};
-ghost use Rattle.hir_fields.specs.Told.{GivenUnlessTold};
+ghost use Rattle.hir_fields.specs.Told.{StandsUnlessTold};
 ghost use Rattle.hir_fields.specs.Types.{each_errors, field_types_form, types_errors};
 ghost use Rattle.hir_fields.specs.inside.Numbering.{JudgedWhereNumbered, result_errors};
 ghost use Rattle.hir_form.specs.ParamForms.{all_given};
@@ -40,7 +40,7 @@ fn judge_each<K: FieldKind>(
     requires { length fields.now ≡ length types.now }
     ensures told { OnOk result (errors.new ≡ added errors.old
         (each_errors (K.type_errors support.now catalog.now) fields.now types.now)) }
-    ensures given { IfOk result (GivenUnlessTold
+    ensures given { IfOk result (StandsUnlessTold
         (each_errors (K.type_errors support.now catalog.now) fields.now types.now)
         (all_given (map (K.type_form catalog.now) types.now))) }
     ensures each { IfOk result
@@ -145,7 +145,7 @@ pub fn lower_types<K: FieldKind>(
         → OnOk result (errors.new ≡ added errors.old
         (types_errors (K.type_errors support.now catalog.now) names item.now)) }
     ensures given { (names : Naming) → IsNaming env.now number names
-        → IfOk result (GivenUnlessTold (lifetime_errors item.now.lifetimes
+        → IfOk result (StandsUnlessTold (lifetime_errors item.now.lifetimes
         ++ types_errors (K.type_errors support.now catalog.now) names item.now)
         (field_types_form (K.type_form catalog.now) names item.now)) }
     ensures misnamed { lifetime_errors item.now.lifetimes ≢ []

@@ -6,7 +6,7 @@ use Rattle.hir_number.specs.declared.fault.NumberFault.{NumberFault}
 use Rattle.hir_number.specs.declared.numbered.NumberedType.{NumberedType}
 use Rattle.hir_reports.specs.declared.report.LoweringError.{LoweringError}
 use Rattle.hir_signatures.specs.Errors.{number_errors}
-use Rattle.hir_fields.specs.Told.{GivenUnlessTold}
+use Rattle.hir_fields.specs.Told.{StandsUnlessTold}
 use Rattle.hir_fields.specs.Types.{TypeErrors, each_errors}
 
 -- each type is judged, or a lifetime has no number
@@ -16,5 +16,5 @@ result_errors errors fields (Err fault) = number_errors fault
 
 -- where they are numbered, what they stand for is made unless something is told
 abbrev pub JudgedWhereNumbered : {T : Type 0} → TypeErrors → (NumberedType → Option T) → List Field → Result (List NumberedType) NumberFault → Option (List T) → Type 0
-JudgedWhereNumbered errors form fields (Ok types) made = GivenUnlessTold (each_errors errors fields types) (all_given (map form types)) made
+JudgedWhereNumbered errors form fields (Ok types) made = StandsUnlessTold (each_errors errors fields types) (all_given (map form types)) made
 JudgedWhereNumbered errors form fields (Err fault) made = ⊤
