@@ -1,0 +1,7 @@
+pub mod Writers
+pub mod Joining
+pub mod Untyped
+pub mod Types
+pub mod Methods
+pub mod Functions
+pub mod inside

@@ -1,0 +1,47 @@
+-- A declared method: what is told of it, and what it is lowered to.
+use Rattle.std.specs.Prelude.{List, ◌++◌, Option, None, option_map, if◌then◌else◌}
+use Rattle.bridge_ast.specs.declared.place.ItemPlace.{ItemPlace}
+use Rattle.bridge_decl.specs.declared.methods.Method.{Method as DeclaredMethod}
+use Rattle.bridge_order.specs.declared.catalog.Catalog.{Catalog}
+use Rattle.hir_attrs.specs.Reading.{marks_errors, marks_of}
+use Rattle.hir_attrs.specs.declared.attrs.Attrs.{Attrs}
+use Rattle.hir_backends.specs.Backend.{Backend}
+use Rattle.hir_backends.specs.declared.support.BackendAttrSupport.{BackendAttrSupport}
+use Rattle.hir_definitions.specs.declared.methods.Method.{Method}
+use Rattle.hir_lower.specs.declared.config.LoweringConfig.{LoweringConfig}
+use Rattle.hir_number.specs.Naming.{Naming}
+use Rattle.hir_number.specs.Signatures.{without_writer}
+use Rattle.hir_reports.specs.declared.report.LoweringError.{LoweringError}
+use Rattle.hir_methods.specs.Types.{method_type_errors, method_types, whole_of}
+use Rattle.hir_methods.specs.Untyped.{each_untyped_errors, heading_errors, heading_form, receiver_mark_errors, receiver_marks, unless_disabled, untyped_forms}
+
+-- what is told of an enabled one beside its own marks: of its heading, its receiver, its parameters without the trailing writer, and
+-- its types
+abbrev pub enabled_errors : Backend → BackendAttrSupport → LoweringConfig → Catalog → Naming → ItemPlace → DeclaredMethod → List LoweringError
+enabled_errors backend support config catalog names owner method =
+    heading_errors backend method.docs method.name method.abi_name method.lifetime_env
+    ++ receiver_mark_errors backend method.self_param
+    ++ each_untyped_errors backend (without_writer method.params)
+    ++ method_type_errors support config catalog names owner method
+
+-- what is told of one of the type there: its marks, which start from those of its parent, and the rest unless it is disabled
+abbrev pub method_errors : Backend → BackendAttrSupport → LoweringConfig → Catalog → Naming → ItemPlace → Attrs → DeclaredMethod → List LoweringError
+method_errors backend support config catalog names owner parent method =
+    marks_errors backend method.attrs parent
+    ++ unless_disabled (marks_of backend method.attrs parent) (enabled_errors backend support config catalog names owner method)
+
+-- an enabled one with these marks, where its types have a form
+abbrev pub enabled_form : Backend → Catalog → Naming → ItemPlace → Attrs → DeclaredMethod → Option Method
+enabled_form backend catalog names owner attrs method =
+    option_map (whole_of attrs (heading_form backend method.docs method.name method.abi_name) (receiver_marks backend method.self_param)
+    (untyped_forms backend (without_writer method.params))) (method_types catalog names owner method)
+
+-- one with these marks: none where it is disabled
+abbrev pub marked_form : Backend → Catalog → Naming → ItemPlace → Attrs → DeclaredMethod → Option Method
+marked_form backend catalog names owner attrs method =
+    if attrs.disable then None else enabled_form backend catalog names owner attrs method
+
+-- what it is lowered to
+abbrev pub method_form : Backend → Catalog → Naming → ItemPlace → Attrs → DeclaredMethod → Option Method
+method_form backend catalog names owner parent method =
+    marked_form backend catalog names owner (marks_of backend method.attrs parent) method

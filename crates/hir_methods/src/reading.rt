@@ -1,0 +1,64 @@
+//! The marks and the documents of a declaration, each by itself: of what is disabled the marks alone are read.
+
+ghost use Rattle.std.specs.Prelude.{◌≡◌, IfOk, OnOk};
+ghost use Rattle.hir_attrs.specs.Attrs.{empty_attrs};
+ghost use Rattle.hir_attrs.specs.Reading.{marks_errors, marks_of};
+ghost use Rattle.hir_docs.specs.Docs.{docs_errors, docs_for};
+ghost use Rattle.hir_reports.specs.Store.{Held, Keeps, added};
+
+use bridge_decl::NoMemory;
+use hir_attrs::Attrs;
+use hir_backends::AttributeValidator;
+use hir_docs::Docs;
+use hir_reports::ErrorStore;
+use std::alloc::Global;
+
+/// The marks of a declaration, which start from those of its parent.
+#[tactic(auto, using(hir_heads::proofs::Stores::added_keeps))]
+pub(crate) fn read_marks<V: AttributeValidator>(
+    alloc: Global,
+    attrs: &bridge_decl::Attrs,
+    parent: Attrs,
+    validator: &V,
+    errors: &mut ErrorStore<'_>,
+) -> Result<Attrs, NoMemory>
+    ensures told { OnOk result (errors.new
+        ≡ added errors.old (marks_errors (V.meaning validator.now) attrs.now parent)) }
+    ensures made { IfOk result
+        (λ read. read ≡ marks_of (V.meaning validator.now) attrs.now parent) }
+    ensures kept { (earlier : Held) → Keeps earlier errors.old → Keeps earlier errors.new }
+{
+    Attrs::from_ast(alloc, attrs, validator, parent, errors)
+}
+
+/// Those of a parameter or a receiver, which start from none.
+pub(crate) fn read_own_marks<V: AttributeValidator>(
+    alloc: Global,
+    attrs: &bridge_decl::Attrs,
+    validator: &V,
+    errors: &mut ErrorStore<'_>,
+) -> Result<Attrs, NoMemory>
+    ensures told { OnOk result (errors.new
+        ≡ added errors.old (marks_errors (V.meaning validator.now) attrs.now empty_attrs)) }
+    ensures made { IfOk result
+        (λ read. read ≡ marks_of (V.meaning validator.now) attrs.now empty_attrs) }
+    ensures kept { (earlier : Held) → Keeps earlier errors.old → Keeps earlier errors.new }
+{
+    read_marks(alloc, attrs, Attrs::empty(alloc), validator, errors)
+}
+
+/// The documents of a declaration.
+#[tactic(auto, using(hir_heads::proofs::Stores::added_keeps))]
+pub(crate) fn read_docs<V: AttributeValidator>(
+    alloc: Global,
+    docs: &bridge_decl::Docs,
+    validator: &V,
+    errors: &mut ErrorStore<'_>,
+) -> Result<Docs, NoMemory>
+    ensures told { OnOk result (errors.new
+        ≡ added errors.old (docs_errors (V.meaning validator.now) docs.now)) }
+    ensures made { IfOk result (λ read. read ≡ docs_for (V.meaning validator.now) docs.now) }
+    ensures kept { (earlier : Held) → Keeps earlier errors.old → Keeps earlier errors.new }
+{
+    Docs::from_ast(alloc, docs, validator, errors)
+}
