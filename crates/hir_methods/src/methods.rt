@@ -6,7 +6,7 @@ ghost use Rattle.hir_heads.specs.Told.{MadeUnlessTold};
 ghost use Rattle.hir_methods.specs.Methods.{enabled_errors, enabled_form, method_errors, method_form};
 ghost use Rattle.hir_methods.specs.Types.{unless_told};
 ghost use Rattle.hir_methods.specs.inside.Parts.{GivenUnlessTold};
-ghost use Rattle.hir_methods.specs.inside.Gathering.{head_errors, head_form};
+ghost use Rattle.hir_methods.specs.inside.Gathering.{apart_errors, apart_form};
 ghost use Rattle.hir_number.specs.Naming.{IsNaming, Naming};
 ghost use Rattle.hir_reports.specs.Store.{Held, Keeps, added};
 
@@ -35,10 +35,10 @@ fn lower_untyped<V: AttributeValidator>(
     errors: &mut ErrorStore<'_>,
 ) -> Result<Option<Untyped>, NoMemory>
     ensures told { OnOk result (errors.new
-        ≡ added errors.old (head_errors (V.meaning validator.now) method.now)) }
+        ≡ added errors.old (apart_errors (V.meaning validator.now) method.now)) }
     ensures made { IfOk result (MadeUnlessTold
-        (head_errors (V.meaning validator.now) method.now)
-        (head_form (V.meaning validator.now) method.now)) }
+        (apart_errors (V.meaning validator.now) method.now)
+        (apart_form (V.meaning validator.now) method.now)) }
     ensures kept { (earlier : Held) → Keeps earlier errors.old → Keeps earlier errors.new }
 {
     let heading = lower_heading(

@@ -17,15 +17,15 @@ abbrev pub gathered : Option Heading → Option Attrs → Option (List UntypedPa
 gathered heading receiver params = option_map (λ p. record { heading = p.0; receiver = receiver; params = p.1 }) (paired heading params)
 
 -- what is told of an enabled method beside its own marks and its types
-abbrev pub head_errors : Backend → Method → List LoweringError
-head_errors backend method =
+abbrev pub apart_errors : Backend → Method → List LoweringError
+apart_errors backend method =
     heading_errors backend method.docs method.name method.abi_name method.lifetime_env
     ++ receiver_mark_errors backend method.self_param
     ++ each_untyped_errors backend (without_writer method.params)
 
 -- what that stands for
-abbrev pub head_form : Backend → Method → Untyped
-head_form backend method =
+abbrev pub apart_form : Backend → Method → Untyped
+apart_form backend method =
     record {
       heading = heading_form backend method.docs method.name method.abi_name;
       receiver = receiver_marks backend method.self_param;

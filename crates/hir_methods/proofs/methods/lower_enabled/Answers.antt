@@ -5,7 +5,7 @@ use Rattle.hir_methods.proofs.DisabledLemmas.{told_after}
 use Rattle.hir_methods.proofs.MadeLemmas.{both_made}
 use Rattle.hir_methods.proofs.Outcomes.{always, and_so_of, made_beside}
 use Rattle.hir_methods.specs.Types.{method_type_errors, method_types, whole_of}
-use Rattle.hir_methods.specs.inside.Gathering.{head_errors, head_form}
+use Rattle.hir_methods.specs.inside.Gathering.{apart_errors, apart_form}
 use Rattle.hir_methods.specs.inside.Parts.{GivenUnlessTold}
 use Rattle.hir_methods.proofs.methods.lower_enabled.Goals as goal
 
@@ -16,7 +16,7 @@ returns-clause-told g c = λ names is.
     let parts = made_beside c.in_ok-untyped.untyped c.lower_method_types-types.result c.in_ok-parts.parts c.in_ok-parts.ensures in
     let told = subst (λ r. OnOk r (c.lower_method_types-types.new.errors ≡ added c.lower_untyped.new.errors types)) parts.1 (c.lower_method_types-types.ensures.told names is) in
     always c.join_whole.result
-    (told_after c.args.errors.now c.lower_untyped.new.errors c.lower_method_types-types.new.errors (head_errors backend c.args.method.now) types c.in_ok-untyped.ensures.told told)
+    (told_after c.args.errors.now c.lower_untyped.new.errors c.lower_method_types-types.new.errors (apart_errors backend c.args.method.now) types c.in_ok-untyped.ensures.told told)
 
 pub returns-clause-made : goal.returns-clause-made
 returns-clause-made g c = λ names is.
@@ -29,6 +29,6 @@ returns-clause-made g c = λ names is.
     and_so_of c.join_whole.result
     (λ made whole none.
     whole ∙ ap (option_map (λ p. whole_of c.args.attrs p.0.heading p.0.receiver p.0.params p.1)) parts.2
-    ∙ both_made (λ untyped it. whole_of c.args.attrs untyped.heading untyped.receiver untyped.params it) (head_form backend method) form c.in_ok-untyped.untyped
-    parts.0 (head_errors backend method) errors c.in_ok-untyped.ensures.made given none)
+    ∙ both_made (λ untyped it. whole_of c.args.attrs untyped.heading untyped.receiver untyped.params it) (apart_form backend method) form c.in_ok-untyped.untyped
+    parts.0 (apart_errors backend method) errors c.in_ok-untyped.ensures.made given none)
     c.join_whole.ensures
