@@ -1,7 +1,9 @@
 //! What is asked of paths.
 
 use crate::tests::{enumeration, exclusive, lifetime, opaque, out_structure, shared, structure};
-use hir_ids::{Borrow, EnumId, MaybeOwn, NonOptional, OpaqueId, OutStructId, StructId, TypeId};
+use hir_ids::{
+    Borrow, EnumId, MaybeOwn, NonOptional, OpaqueId, Optional, OutStructId, StructId, TypeId,
+};
 use hir_life::{Lifetime, Lifetimes, MaybeStatic};
 use hir_types::{OpaquePath, ReturnableStructPath, StructPathLike};
 use std::process::Abort;
@@ -29,17 +31,26 @@ fn compare<S: StructPathLike>(
     );
 }
 
+/// Compares what is asked of a path to the third opaque, held so.
+fn compare_opaque(
+    rt: &impl Abort,
+    path: &OpaquePath<Optional, MaybeOwn>,
+    optional: bool,
+    borrow: Option<(MaybeStatic<Lifetime>, bool)>,
+) {
+    assert_eq!(rt; path.id(), TypeId::Opaque(OpaqueId::new(2)));
+    assert_eq!(rt; path.is_optional(), optional);
+    assert_eq!(rt; path.is_owned(), borrow.is_none());
+    assert_eq!(rt; seen(path.as_borrowed()), borrow);
+}
+
 #[test]
 fn opaques_may_be_absent_and_owned(rt: HostRuntime) -> Result<(), Fail> {
-    let id = TypeId::Opaque(OpaqueId::new(2));
     for optional in [false, true] {
         let path = opaque(rt.alloc(), &[], optional, MaybeOwn::Own)?;
-        assert_eq!(rt; (path.id(), path.is_optional()), (id, optional));
-        assert!(rt; path.is_owned());
-        assert_eq!(rt; seen(path.as_borrowed()), None);
+        compare_opaque(&rt, &path, optional, None);
         let path = opaque(rt.alloc(), &[], optional, MaybeOwn::Borrow(exclusive(4)))?;
-        assert_eq!(rt; (path.is_optional(), path.is_owned()), (optional, false));
-        assert_eq!(rt; seen(path.as_borrowed()), Some((lifetime(Some(4)), true)));
+        compare_opaque(&rt, &path, optional, Some((lifetime(Some(4)), true)));
     }
     Ok(())
 }

@@ -1,7 +1,7 @@
 //! The lifetimes of slices of each kind.
 
-use crate::tests::{enumeration, exclusive, lifetime, opaque, shared, structure};
-use bridge_decl::StringEncoding;
+use crate::tests::{enumeration, lifetime, opaque, shared, structure};
+use bridge_decl::{Mutability, StringEncoding};
 use hir_ids::{Borrow, MaybeOwn, PrimitiveType};
 use hir_types::{HirType, InputOnly, Slice};
 use std::alloc::Global;
@@ -68,21 +68,25 @@ fn enums_and_structs_come_before_their_slice(rt: HostRuntime) -> Result<(), Fail
     Ok(())
 }
 
+/// `&'static mut T`.
+fn forever() -> Borrow {
+    Borrow {
+        lifetime: lifetime(None),
+        mutability: Mutability::Mutable,
+    }
+}
+
 #[test]
 fn opaques_come_before_their_slice(rt: HostRuntime) -> Result<(), Fail> {
     let alloc = rt.alloc();
-    let of_static = Borrow {
-        lifetime: lifetime(None),
-        mutability: exclusive(0).mutability,
-    };
-    let element = opaque(alloc, &[Some(1)], true, of_static)?;
+    let element = opaque(alloc, &[Some(1)], true, forever())?;
     compare(
         &rt,
         Slice::Opaque(held(), element),
         Some(Some(3)),
         &[Some(1), None, Some(3)],
     );
-    let element = opaque(alloc, &[Some(1)], false, of_static)?;
+    let element = opaque(alloc, &[Some(1)], false, forever())?;
     compare(
         &rt,
         Slice::Opaque(MaybeOwn::Own, element),
