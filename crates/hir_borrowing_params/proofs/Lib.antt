@@ -1,0 +1,10 @@
+pub mod Writing
+pub mod Rooms
+pub mod Pushing
+pub mod Rows
+pub mod Kinding
+pub mod Beginnings
+pub mod Told
+pub mod Rising
+pub mod Linked
+pub mod Returned

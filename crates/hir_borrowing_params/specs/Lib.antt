@@ -1,0 +1,6 @@
+pub mod Edges
+pub mod Answering
+pub mod Keys
+pub mod Inputs
+pub mod Visitors
+pub mod inside

@@ -1,0 +1,6 @@
+pub mod Candidates
+pub mod Rooms
+pub mod Pushing
+pub mod Starting
+pub mod Telling
+pub mod Parts
