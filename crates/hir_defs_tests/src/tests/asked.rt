@@ -4,8 +4,8 @@ use crate::tests::made::{
     Of, add_opaque, add_struct, enumeration, function, in_root, interface, no_parts, out_struct,
 };
 use crate::tests::paths::{compare_links, compare_paths, compare_positions};
-use bridge_decl::Text;
-use hir_context::{ContextParts, TypeContext};
+use bridge_decl::{Items, Text};
+use hir_context::{ContextParts, Placed, TypeContext};
 use hir_ids::{EnumId, FunctionId, OpaqueId, OutStructId, StructId, SymbolId, TraitId, TypeId};
 use std::alloc::Global;
 use std::process::Abort;
@@ -38,18 +38,24 @@ fn add_others(alloc: Global, parts: &mut ContextParts) -> Result<(), Fail> {
     Ok(())
 }
 
-/// A function of this name, in a module with a path of so many segments.
+/// The path of a module so deep.
+fn path_of(alloc: Global, depth: usize) -> Result<Items<Text>, Fail> {
+    let mut path = Items::new(alloc);
+    for _ in 0..depth {
+        path.push(Text::new(alloc, "files")?)?;
+    }
+    Ok(path)
+}
+
+/// A function of this name, in a module of this path.
 fn add_function(
     alloc: Global,
     parts: &mut ContextParts,
     called: &str,
-    depth: usize,
+    module: Items<Text>,
 ) -> Result<(), Fail> {
-    let mut placed = in_root(alloc, function(alloc, called)?);
-    for _ in 0..depth {
-        placed.module.push(Text::new(alloc, "files")?)?;
-    }
-    parts.functions.push(placed)?;
+    let def = function(alloc, called)?;
+    parts.functions.push(Placed { def, module })?;
     Ok(())
 }
 
@@ -57,8 +63,9 @@ fn add_function(
 fn add_all(alloc: Global, parts: &mut ContextParts) -> Result<(), Fail> {
     add_types(alloc, parts)?;
     add_others(alloc, parts)?;
-    add_function(alloc, parts, "find", 0)?;
-    add_function(alloc, parts, "read", 2)
+    add_function(alloc, parts, "find", Items::new(alloc))?;
+    let deep = path_of(alloc, 2)?;
+    add_function(alloc, parts, "read", deep)
 }
 
 /// The context of these parts.

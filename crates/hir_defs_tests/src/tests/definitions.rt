@@ -3,9 +3,9 @@
 use crate::tests::made::{
     enumeration, function, input_struct, lifetime, opaque, out_struct, shared, struct_path,
 };
-use bridge_decl::{IdentBuf, Items, Mutability, NoMemory};
+use bridge_decl::{IdentBuf, Items, Mutability};
 use hir_attrs::{Attrs, DefaultArgValue};
-use hir_definitions::{Method, Param, ParamSelf, SpecialMethodPresence, TypeDef};
+use hir_definitions::{Method, Param, ParamSelf, TypeDef};
 use hir_ids::{Borrow, EnumId, MaybeOwn, NonOptional, OpaqueId};
 use hir_life::{LifetimeEnv, Lifetimes};
 use hir_types::{EnumPath, HirType, OpaquePath, SelfType};
@@ -90,11 +90,8 @@ fn a_parameter_may_have_a_value(rt: HostRuntime) -> Result<(), Fail> {
     Ok(())
 }
 
-#[test]
-fn a_method_has_all_its_lifetimes(rt: HostRuntime) -> Result<(), Fail> {
-    let alloc = rt.alloc();
-    let mut method = function(alloc, "find")?;
-    method.lifetime_env = LifetimeEnv::new(Items::new(alloc), 3);
+/// Compares all lifetimes of a method that has three.
+fn compare_lifetimes(rt: &impl Abort, alloc: Global, method: &Method) -> Result<(), Fail> {
     let all = method.method_lifetimes(alloc)?;
     assert_eq!(rt; all.len(), 3);
     for (number, found) in all.as_slice().iter().enumerate() {
@@ -103,87 +100,47 @@ fn a_method_has_all_its_lifetimes(rt: HostRuntime) -> Result<(), Fail> {
     Ok(())
 }
 
-/// Notes that the type has one more method, what iterates over it, and that it is disabled.
-fn note(
-    methods: &mut Items<Method>,
-    special: &mut SpecialMethodPresence,
-    attrs: &mut Attrs,
-    method: Method,
-) -> Result<(), NoMemory> {
-    special.iterable = Some(OpaqueId::new(4));
-    attrs.disable = true;
-    methods.push(method)
+#[test]
+fn a_method_has_all_its_lifetimes(rt: HostRuntime) -> Result<(), Fail> {
+    let alloc = rt.alloc();
+    let mut method = function(alloc, "find")?;
+    method.lifetime_env = LifetimeEnv::new(Items::new(alloc), 3);
+    compare_lifetimes(&rt, alloc, &method)
 }
 
-/// Compares what is asked of a type with its name, and with whether this was noted.
-fn compare(rt: &impl Abort, def: TypeDef<'_>, name: &str, noted: bool) {
+/// Compares what is asked of a type with its name, and with whether something iterates over it.
+fn compare(rt: &impl Abort, def: TypeDef<'_>, name: &str, iterable: bool) {
     assert_eq!(rt; def.name().as_str(), name);
     assert!(rt; def.docs().is_empty());
-    assert_eq!(rt; def.methods().len(), usize::from(noted));
-    assert_eq!(rt; def.attrs().disable, noted);
-    assert_eq!(rt; def.special_method_presence().iterable.is_some(), noted);
+    assert_eq!(rt; def.methods().len(), 0);
+    assert!(rt; !def.attrs().disable);
+    assert_eq!(rt; def.special_method_presence().iterable.is_some(), iterable);
 }
 
 #[test]
 fn structs_are_asked_as_types(rt: HostRuntime) -> Result<(), Fail> {
-    let alloc = rt.alloc();
-    let method = function(alloc, "find")?;
-    let mut def = input_struct(alloc, "Line", 0, &[])?;
+    let def = input_struct(rt.alloc(), "Line", 0, &[])?;
     compare(&rt, TypeDef::Struct(&def), "Line", false);
-    note(
-        &mut def.methods,
-        &mut def.special_method_presence,
-        &mut def.attrs,
-        method,
-    )?;
-    compare(&rt, TypeDef::Struct(&def), "Line", true);
     Ok(())
 }
 
 #[test]
 fn out_structs_are_asked_as_types(rt: HostRuntime) -> Result<(), Fail> {
-    let alloc = rt.alloc();
-    let method = function(alloc, "find")?;
-    let mut def = out_struct(alloc, "Found", 0)?;
+    let def = out_struct(rt.alloc(), "Found", 0)?;
     compare(&rt, TypeDef::OutStruct(&def), "Found", false);
-    note(
-        &mut def.methods,
-        &mut def.special_method_presence,
-        &mut def.attrs,
-        method,
-    )?;
-    compare(&rt, TypeDef::OutStruct(&def), "Found", true);
     Ok(())
 }
 
 #[test]
 fn opaques_are_asked_as_types(rt: HostRuntime) -> Result<(), Fail> {
-    let alloc = rt.alloc();
-    let method = function(alloc, "find")?;
-    let mut def = opaque(alloc, "Page", 0, None)?;
-    compare(&rt, TypeDef::from(&def), "Page", false);
-    note(
-        &mut def.methods,
-        &mut def.special_method_presence,
-        &mut def.attrs,
-        method,
-    )?;
+    let def = opaque(rt.alloc(), "Page", 0, Some(4))?;
     compare(&rt, TypeDef::from(&def), "Page", true);
     Ok(())
 }
 
 #[test]
 fn enums_are_asked_as_types(rt: HostRuntime) -> Result<(), Fail> {
-    let alloc = rt.alloc();
-    let method = function(alloc, "find")?;
-    let mut def = enumeration(alloc, "Color")?;
+    let def = enumeration(rt.alloc(), "Color")?;
     compare(&rt, TypeDef::from(&def), "Color", false);
-    note(
-        &mut def.methods,
-        &mut def.special_method_presence,
-        &mut def.attrs,
-        method,
-    )?;
-    compare(&rt, TypeDef::from(&def), "Color", true);
     Ok(())
 }
