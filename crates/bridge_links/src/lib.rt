@@ -25,6 +25,3 @@ mod items;
 mod lines;
 
 pub use lines::LinkLines;
-
-#[cfg(test)]
-mod tests;

@@ -40,6 +40,3 @@ pub use known::{Names, Pairs};
 pub use meanings::AttributeValidator;
 pub use support::{BackendAttrSupport, SupportFlag};
 pub use validator::BasicAttributeValidator;
-
-#[cfg(test)]
-mod tests;

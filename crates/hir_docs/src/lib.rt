@@ -29,6 +29,3 @@ mod urls;
 pub use docs::Docs;
 pub use links::LinkFault;
 pub use urls::DocsUrlGenerator;
-
-#[cfg(test)]
-mod tests;

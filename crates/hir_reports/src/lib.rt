@@ -33,6 +33,3 @@ pub use places::ErrorContext;
 pub use report::{ErrorAndContext, LoweringError, LoweringReport};
 pub use rule::Rule;
 pub use store::ErrorStore;
-
-#[cfg(test)]
-mod tests;

@@ -49,6 +49,14 @@ pub trait PositionTypes: TyPosition {
         → trait_path_here path ≡ Some made → Self.IN_OUT_STATUS ≡ InputOrOutput.Input };
 }
 
+/// No callback, of one that is let go: once for all positions that have none, since what a callback
+/// holds is much to let go.
+fn no_callback(_cb: Callback) -> Option<NoCallback>
+    ensures { result ≡ None }
+{
+    None
+}
+
 impl PositionTypes for Everywhere {
     ghost callback_of = { λ _. None };
 
@@ -66,8 +74,8 @@ impl PositionTypes for Everywhere {
         None
     }
 
-    fn build_callback(_cb: Callback) -> Option<NoCallback> {
-        None
+    fn build_callback(cb: Callback) -> Option<NoCallback> {
+        no_callback(cb)
     }
 
     fn build_trait_path(_trait_path: TraitPath) -> Option<NoTraitPath> {
@@ -92,8 +100,8 @@ impl PositionTypes for OutputOnly {
         None
     }
 
-    fn build_callback(_cb: Callback) -> Option<NoCallback> {
-        None
+    fn build_callback(cb: Callback) -> Option<NoCallback> {
+        no_callback(cb)
     }
 
     fn build_trait_path(_trait_path: TraitPath) -> Option<NoTraitPath> {
@@ -118,8 +126,8 @@ impl PositionTypes for CallbackReturn {
         None
     }
 
-    fn build_callback(_cb: Callback) -> Option<NoCallback> {
-        None
+    fn build_callback(cb: Callback) -> Option<NoCallback> {
+        no_callback(cb)
     }
 
     fn build_trait_path(trait_path: TraitPath) -> Option<TraitPath> {

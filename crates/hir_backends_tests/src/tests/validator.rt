@@ -1,7 +1,7 @@
-use crate::{
+use bridge_decl::{NoMemory, Text};
+use hir_backends::{
     AttributeValidator, BackendAttrSupport, BasicAttributeValidator, Names, Pairs, SupportFlag,
 };
-use bridge_decl::{NoMemory, Text};
 use sqlite_items::Items;
 use std::alloc::Global;
 

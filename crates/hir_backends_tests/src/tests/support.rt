@@ -1,4 +1,4 @@
-use crate::{BackendAttrSupport, SupportFlag};
+use hir_backends::{BackendAttrSupport, SupportFlag};
 
 // As upstream lists them.
 const NAMES: [&str; 42] = [

@@ -1,8 +1,8 @@
-use crate::LinkLines;
 use bridge_decl::{
     Attrs, DocType, Docs, Item, Items, LifetimeEnv, Module, Mutability, NoMemory, OpaqueType,
     RenameAttr, RustLink, RustLinkDisplay, Text, Trait, TraitMethod,
 };
+use bridge_links::LinkLines;
 use hir_docs::DocsUrlGenerator;
 use std::alloc::Global;
 

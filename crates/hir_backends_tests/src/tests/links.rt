@@ -1,5 +1,5 @@
-use crate::{DocsUrlGenerator, LinkFault};
 use bridge_decl::{DocType, Items, NoMemory, RustLink, RustLinkDisplay, Text};
+use hir_docs::{DocsUrlGenerator, LinkFault};
 use std::alloc::Global;
 use std::collections::BTreeMap;
 

@@ -1,5 +1,5 @@
-use crate::{ErrorContext, LoweringError, LoweringReport, Rule};
 use bridge_decl::{Items, NoMemory, Text};
+use hir_reports::{ErrorContext, LoweringError, LoweringReport, Rule};
 use std::alloc::Global;
 
 // Each rule with its name, and its text where the arguments are a, b, c, d and e.

@@ -1,5 +1,5 @@
-use crate::{ErrorStore, LoweringError, LoweringReport, Rule};
 use bridge_decl::{Items, NoMemory, Text};
+use hir_reports::{ErrorStore, LoweringError, LoweringReport, Rule};
 use std::alloc::Global;
 
 fn path(alloc: Global, segments: &[&str]) -> Result<Items<Text>, NoMemory> {

@@ -1,5 +1,5 @@
-use crate::{BasicAttributeValidator, CfgFault, satisfies_cfg};
 use bridge_decl::{Boxed, DiplomatBackendAttrCfg, Items, NoMemory, Text};
+use hir_backends::{BasicAttributeValidator, CfgFault, satisfies_cfg};
 use std::alloc::Global;
 
 // A plain condition: `*`, `auto`, a pair written `name=value`, or else the name of a backend.

@@ -1,5 +1,5 @@
-use crate::DocsUrlGenerator;
 use bridge_decl::{NoMemory, Text};
+use hir_docs::DocsUrlGenerator;
 use std::alloc::Global;
 use std::collections::BTreeMap;
 

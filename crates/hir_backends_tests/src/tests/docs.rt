@@ -1,6 +1,6 @@
-use crate::Docs;
 use bridge_decl::{Boxed, DiplomatBackendAttrCfg, DocBlock, Items, NoMemory, Text};
 use hir_backends::BasicAttributeValidator;
+use hir_docs::Docs;
 use hir_reports::{ErrorStore, Rule};
 use std::alloc::Global;
 

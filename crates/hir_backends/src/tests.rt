@@ -1,3 +1,0 @@
-mod conditions;
-mod support;
-mod validator;

@@ -1,3 +1,0 @@
-mod docs;
-mod links;
-mod urls;

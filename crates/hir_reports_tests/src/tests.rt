@@ -1,0 +1,4 @@
+//! Tests, one module a subject.
+
+mod store;
+mod texts;
