@@ -56,6 +56,18 @@ fn names(
     Ok(())
 }
 
+/// Compares them of the return, and of a copy.
+fn names_in_both(
+    rt: &impl Abort,
+    alloc: Global,
+    returned: &Returned,
+    numbers: &[usize],
+) -> Result<(), Fail> {
+    names(rt, alloc, returned, numbers)?;
+    let copy = returned.try_clone(alloc)?;
+    names(rt, alloc, &copy, numbers)
+}
+
 /// `Box<Page<'4, 'static>>` behind the given owner.
 fn page(alloc: Global, owner: MaybeOwn) -> Result<OutType, Fail> {
     Ok(HirType::Opaque(opaque(alloc, &[Some(4), None], true, owner)?))
@@ -127,7 +139,7 @@ fn a_return_names_its_lifetimes_in_order(rt: HostRuntime) -> Result<(), Fail> {
     let page = page(alloc, MaybeOwn::Borrow(shared(1)))?;
     let returned = ReturnType::Nullable(SuccessType::OutType(page));
     assert_eq!(rt; types_in(&returned), 1);
-    names(&rt, alloc, &returned, &[1, 4])
+    names_in_both(&rt, alloc, &returned, &[1, 4])
 }
 
 #[test]
@@ -137,5 +149,5 @@ fn a_return_names_the_lifetimes_of_its_error(rt: HostRuntime) -> Result<(), Fail
     let returned = ReturnType::Fallible(SuccessType::Unit, Some(error));
     assert!(rt; returned.success_type().is_unit());
     assert_eq!(rt; types_in(&returned), 1);
-    names(&rt, alloc, &returned, &[2, 4])
+    names_in_both(&rt, alloc, &returned, &[2, 4])
 }
