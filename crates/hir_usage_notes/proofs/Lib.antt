@@ -1,0 +1,2 @@
+mod NotingLemmas
+mod UsedLemmas

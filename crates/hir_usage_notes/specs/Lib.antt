@@ -1,0 +1,4 @@
+pub mod AllUses
+pub mod Notes
+pub mod Parts
+pub mod inside
