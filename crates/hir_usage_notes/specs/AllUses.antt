@@ -1,7 +1,6 @@
 -- How the definitions of an interface use each other, in the order in which they are lowered.
 use Rattle.std.specs.Prelude.{ℕ, List, [], ◌++◌, Some}
 use Rattle.std.specs.List.{flat_map}
-use Rattle.hir_context.specs.declared.parts.Placed.{Placed}
 use Rattle.hir_definitions.specs.declared.definitions.StructDef.{StructDef}
 use Rattle.hir_definitions.specs.declared.methods.Method.{Method}
 use Rattle.hir_ids.specs.declared.owners.Borrow.{Borrow}
@@ -15,7 +14,7 @@ use Rattle.hir_usage.specs.Callbacks.{method_usages, output_usages, struct_id}
 use Rattle.hir_usage.specs.Definitions.{fields_usages, trait_usages}
 use Rattle.hir_usage.specs.Types.{type_usages}
 use Rattle.hir_usage.specs.Uses.{Used}
-use Rattle.hir_usage_notes.specs.declared.definitions.PlacedDefinitions.{PlacedDefinitions}
+use Rattle.hir_usage_notes.specs.declared.definitions.LoweredDefinitions.{LoweredDefinitions}
 
 -- the type of a field of a struct that comes in and goes out
 abbrev pub field_type_usages : HirType Everywhere NoCallback Borrow ℕ StructPath NoTraitPath → List Used
@@ -29,16 +28,12 @@ methods_usages methods = flat_map method_usages methods
 abbrev pub struct_usages : {P C O I S T : Type 0} → (HirType P C O I S T → List Used) → StructDef P C O I S T → List Used
 struct_usages of_type def = fields_usages of_type def.fields ++ methods_usages def.methods
 
--- definitions in their modules, by how each does
-abbrev pub each_usages : {D : Type 0} → (D → List Used) → List (Placed D) → List Used
-each_usages of_def defs = flat_map (λ placed. of_def placed.def) defs
-
 -- all definitions, kind by kind
-abbrev pub all_usages : PlacedDefinitions → List Used
+abbrev pub all_usages : LoweredDefinitions → List Used
 all_usages d =
-    each_usages (struct_usages output_usages) d.out_structs.items
-    ++ each_usages (struct_usages field_type_usages) d.structs.items
-    ++ each_usages (λ def. methods_usages def.methods) d.opaques.items
-    ++ each_usages (λ def. methods_usages def.methods) d.enums.items
-    ++ each_usages trait_usages d.traits.items
-    ++ each_usages method_usages d.functions.items
+    flat_map (struct_usages output_usages) d.out_structs.items
+    ++ flat_map (struct_usages field_type_usages) d.structs.items
+    ++ flat_map (λ def. methods_usages def.methods) d.opaques.items
+    ++ flat_map (λ def. methods_usages def.methods) d.enums.items
+    ++ flat_map trait_usages d.traits.items
+    ++ flat_map method_usages d.functions.items

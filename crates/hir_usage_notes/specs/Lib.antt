@@ -1,4 +1,4 @@
+pub mod Made
 pub mod AllUses
 pub mod Notes
-pub mod Parts
 pub mod inside

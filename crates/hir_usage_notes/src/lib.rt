@@ -20,8 +20,7 @@
 //! | `Missing` | no | no | that of `longest` |
 //! | `Page` | no | no | none |
 //!
-//! [`PlacedDefinitions`] are the definitions of an interface while they are made: what is noted is written into them, and then they become the parts
-//! of a context. Traits and functions aren't used so.
+//! [`LoweredDefinitions`] are the definitions of an interface while they are made: what is noted is written into them. Traits and functions aren't used so.
 //!
 //! Upstream, the crate `diplomat_core`, notes this on definitions as it lowers types, in its module `hir::lowering`.
 #![tactic(auto)]
@@ -30,5 +29,5 @@ mod definitions;
 mod notes;
 mod uses;
 
-pub use definitions::PlacedDefinitions;
+pub use definitions::LoweredDefinitions;
 pub use notes::note_usages;

@@ -4,10 +4,9 @@ ghost use Rattle.std.specs.Prelude.{◌≡◌, OnErr, OnOk};
 ghost use Rattle.hir_usage_notes.specs.Notes.{HaveUsages, each_used, enum_used, opaque_used, struct_used};
 ghost use Rattle.hir_usage_notes.specs.inside.Noting.{used_at};
 
-use crate::definitions::PlacedDefinitions;
+use crate::definitions::LoweredDefinitions;
 use crate::uses::table_of;
 use bridge_decl::NoMemory;
-use hir_context::Placed;
 use hir_definitions::{EnumDef, OpaqueDef, StructDef, TypingUseInfo};
 use hir_types::TyPosition;
 use std::alloc::Global;
@@ -49,17 +48,17 @@ impl KeepsUsage for EnumDef {
 }
 
 /// Notes how the definition at a place is used, where there is one.
-fn note_at<D: KeepsUsage>(defs: &mut Vec<Placed<D>>, place: usize, usage: TypingUseInfo)
+fn note_at<D: KeepsUsage>(defs: &mut Vec<D>, place: usize, usage: TypingUseInfo)
     ensures { defs.new.items ≡ used_at D.used_so place usage defs.old.items }
 {
-    if let Some(placed) = defs.get_mut(place) {
-        placed.def.note(usage);
+    if let Some(def) = defs.get_mut(place) {
+        def.note(usage);
     }
 }
 
 /// Notes how each definition is used, at the same place.
 #[tactic(auto, using(crate::proofs::UsedLemmas::last_first))]
-fn note_each<D: KeepsUsage>(defs: &mut Vec<Placed<D>>, mut usages: Vec<TypingUseInfo>)
+fn note_each<D: KeepsUsage>(defs: &mut Vec<D>, mut usages: Vec<TypingUseInfo>)
     ensures { defs.new.items ≡ each_used D.used_so usages.items defs.old.items }
 {
     while let Some(usage) = usages.pop() {
@@ -69,7 +68,7 @@ fn note_each<D: KeepsUsage>(defs: &mut Vec<Placed<D>>, mut usages: Vec<TypingUse
 
 /// Notes at each definition how all of them use it. `NoMemory` where there is no memory for what is
 /// noted: then nothing is changed.
-pub fn note_usages(alloc: Global, defs: &mut PlacedDefinitions) -> Result<(), NoMemory>
+pub fn note_usages(alloc: Global, defs: &mut LoweredDefinitions) -> Result<(), NoMemory>
     ensures noted { OnOk result (HaveUsages defs.old defs.new) }
     ensures kept { OnErr result (defs.new ≡ defs.old) }
 {

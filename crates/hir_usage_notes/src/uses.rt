@@ -1,16 +1,16 @@
 //! How definitions use each other, noted in a table.
 
 ghost use Rattle.std.specs.Prelude.{◌≡◌, length, IfOk, OnOk};
+ghost use Rattle.std.specs.List.{flat_map};
 ghost use Rattle.hir_usage.specs.Callbacks.{method_usages};
 ghost use Rattle.hir_usage.specs.Definitions.{trait_usages};
 ghost use Rattle.hir_usage.specs.Tables.{noted, usages};
 ghost use Rattle.hir_usage.specs.Types.{type_usages};
-ghost use Rattle.hir_usage_notes.specs.AllUses.{all_usages, each_usages, methods_usages, struct_usages};
+ghost use Rattle.hir_usage_notes.specs.AllUses.{all_usages, methods_usages, struct_usages};
 ghost use Rattle.hir_usage_notes.specs.Notes.{usages_among};
 
-use crate::definitions::PlacedDefinitions;
+use crate::definitions::LoweredDefinitions;
 use bridge_decl::NoMemory;
-use hir_context::Placed;
 use hir_definitions::{EnumDef, Method, OpaqueDef, StructDef, TraitDef};
 use hir_usage::{PositionUses, UseTable, field_usages, method_usages, trait_usages};
 use std::alloc::Global;
@@ -97,20 +97,20 @@ impl UsesDefinitions for Method {
 fn note_each<D: UsesDefinitions>(
     alloc: Global,
     table: &mut UseTable,
-    defs: &[Placed<D>],
+    defs: &[D],
 ) -> Result<(), NoMemory>
     ensures { OnOk result (usages table.new
-        ≡ noted (each_usages D.usages_of defs.now) (usages table.old)) }
+        ≡ noted (flat_map D.usages_of defs.now) (usages table.old)) }
 {
-    for placed in defs {
-        placed.def.note_in(alloc, table)?;
+    for def in defs {
+        def.note_in(alloc, table)?;
     }
     Ok(())
 }
 
 /// Notes how all definitions use others, kind by kind.
 #[tactic(auto, using(crate::proofs::NotingLemmas::noted_both))]
-fn note_all(alloc: Global, table: &mut UseTable, defs: &PlacedDefinitions) -> Result<(), NoMemory>
+fn note_all(alloc: Global, table: &mut UseTable, defs: &LoweredDefinitions) -> Result<(), NoMemory>
     ensures { OnOk result (usages table.new ≡ noted (all_usages defs.now) (usages table.old)) }
 {
     note_each(alloc, table, defs.out_structs.as_slice())?;
@@ -122,7 +122,7 @@ fn note_all(alloc: Global, table: &mut UseTable, defs: &PlacedDefinitions) -> Re
 }
 
 /// How the definitions of each kind are used by all of these.
-pub fn table_of(alloc: Global, defs: &PlacedDefinitions) -> Result<UseTable, NoMemory>
+pub fn table_of(alloc: Global, defs: &LoweredDefinitions) -> Result<UseTable, NoMemory>
     ensures { IfOk result (λ table. usages table ≡ usages_among defs.now) }
 {
     let mut table = UseTable::new(
