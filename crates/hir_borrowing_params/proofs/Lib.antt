@@ -8,3 +8,7 @@ pub mod Told
 pub mod Rising
 pub mod Linked
 pub mod Returned
+pub mod Finding
+pub mod Carrying
+pub mod SliceNesting
+pub mod Including

@@ -146,8 +146,8 @@ returned_below defs m fits numbers lists =
     numbers_below n numbers (lifetimes_named m.output) lists
     (return_below defs n m.output (all_rest (IsFit defs n) (receiver ++ params) (return_mentions output_mentions m.output) fits))
 
--- and what is kept of each number is kept of each lifetime that is named
-pub named_kept : {V E : Type 0} (Kept : V → ℕ → Type 0) (numbers : List ℕ) (ls : List (MaybeStatic ℕ)) (r : Result V E) → ListsNumbers numbers ls → IfOk r (λ v. (t : ℕ) → (Kept v t ↔ Contains numbers t))
-    → IfOk r (λ v. (t : ℕ) → (Kept v t ↔ Contains ls (NonStatic t)))
-named_kept Kept numbers ls (Ok v) lists is = λ t. ((λ kept. (lists.members t).0 ((is t).0 kept)), (λ named. (is t).1 ((lists.members t).1 named)))
-named_kept Kept numbers ls (Err e) lists is = tt
+-- what is kept of each number of a list is kept of each that Q holds of, where these are the same
+pub kept_as : {V E : Type 0} (Kept : V → ℕ → Type 0) (Q : ℕ → Type 0) (numbers : List ℕ) (r : Result V E) → ((t : ℕ) → (Contains numbers t ↔ Q t)) → IfOk r (λ v. (t : ℕ) → (Kept v t ↔ Contains numbers t))
+    → IfOk r (λ v. (t : ℕ) → (Kept v t ↔ Q t))
+kept_as Kept Q numbers (Ok v) same is = λ t. ((λ there. (same t).0 ((is t).0 there)), (λ holds. (is t).1 ((same t).1 holds)))
+kept_as Kept Q numbers (Err e) same is = tt

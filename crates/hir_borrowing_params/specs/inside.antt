@@ -4,3 +4,4 @@ pub mod Pushing
 pub mod Starting
 pub mod Telling
 pub mod Parts
+pub mod Searching

@@ -3,12 +3,12 @@
 ghost use Rattle.std.specs.Prelude.{◌≡◌, ◌<◌, ◌↔◌, ℕ, Some, IfOk, IsSome};
 ghost use Rattle.std.specs.List.{All, Contains};
 ghost use Rattle.hir_context.specs.Fitness.{MethodFits};
-ghost use Rattle.hir_life.specs.declared.maybe_static.MaybeStatic.TheVariants.{NonStatic};
-ghost use Rattle.hir_types.specs.Named.{lifetimes_named};
 ghost use Rattle.hir_borrowing_params.specs.Edges.{HeldFor};
 ghost use Rattle.hir_borrowing_params.specs.Keys.{IsStart};
+ghost use Rattle.hir_borrowing_params.specs.Slices.{IsKept};
 ghost use Rattle.hir_borrowing_params.specs.inside.Candidates.{AreApart};
 
+use crate::included::kept_lifetimes;
 use crate::starts::starts;
 use crate::visitor::BorrowingParamVisitor;
 use bridge_decl::NoMemory;
@@ -37,9 +37,7 @@ impl<'tcx> BorrowingParamVisitor<'tcx> {
 
     /// A visitor that has visited nothing. Of these lifetimes, all of which are lifetimes of the
     /// environment, it keeps those that outlive each, and no edge yet; of others it keeps nothing.
-    ///
-    /// `for_return` hands in those that the return of a method names.
-    pub fn for_lifetimes(
+    fn for_lifetimes(
         alloc: Global,
         tcx: &'tcx TypeContext,
         env: &LifetimeEnv,
@@ -63,22 +61,27 @@ impl<'tcx> BorrowingParamVisitor<'tcx> {
         })
     }
 
-    /// A visitor that has visited nothing, for the lifetimes that a method's return names. The
-    /// method has to fit: what it names is there, with lifetimes of the method.
-    pub fn for_return(
+    /// A visitor that has visited nothing, for a method that fits: what it names is there, with
+    /// lifetimes of the method. It keeps the lifetimes that the return of the method names.
+    /// Backends that copy slices, and let the copies go when what borrows from them is gone, have
+    /// to know this of all slices, also of those that nothing borrows from: where
+    /// `force_include_slices` is set, it keeps also the lifetimes that name a slice among the
+    /// inputs, at any depth.
+    pub fn new(
         alloc: Global,
-        method: &Method,
+        method: &'tcx Method,
         tcx: &'tcx TypeContext,
+        force_include_slices: bool,
     ) -> Result<Self, NoMemory>
         requires fits { MethodFits tcx.now.definitions method.now }
         ensures keys { IfOk result (λ visitor. (t : ℕ) → (IsSome (kept_under visitor t)
-            ↔ Contains (lifetimes_named method.now.output) (NonStatic t))) }
+            ↔ IsKept tcx.now.definitions method.now force_include_slices t)) }
         ensures starts { IfOk result (λ visitor. (t : ℕ) (h : HeldFor)
             → kept_under visitor t ≡ Some h → IsStart method.now.lifetime_env t h) }
         ensures context { IfOk result (λ visitor.
             visited_definitions visitor ≡ tcx.now.definitions) }
     {
-        let set = method.output.used_method_lifetimes(alloc)?;
+        let set = kept_lifetimes(alloc, method, tcx, force_include_slices)?;
         BorrowingParamVisitor::for_lifetimes(alloc, tcx, &method.lifetime_env, &set)
     }
 }

@@ -27,10 +27,10 @@
 //! # The visitor
 //!
 //! A [`BorrowingParamVisitor`] keeps for each returned lifetime those that outlive it, and the
-//! edges so far. `for_return` makes one for the lifetimes that a method's return names, of `open`
-//! `'a` and `'b`; `for_lifetimes` makes one for those of an environment that a caller hands in.
-//! Not here yet is a maker that on demand also keeps the lifetimes of all slices among the inputs
-//! of the method.
+//! edges so far. `new` makes one for the lifetimes that a method's return names, of `open` for `'a`
+//! and `'b`. Where it is told to include slices it keeps also each named lifetime of a slice among
+//! the inputs, at any depth: backends that copy slices for a call have to know how long each copy
+//! is needed, whether or not something that is returned borrows from it.
 //!
 //! `visit_param` visits an input: it adds the edges of this input, and answers what is told of it,
 //! as a [`ParamBorrowInfo`]. Of `mark` it is a [`StructBorrowInfo`], which maps `'x` to `'a`, and
@@ -51,12 +51,15 @@ mod answers;
 mod candidates;
 mod edges;
 mod fields;
+mod included;
 mod infos;
 mod keeping;
 mod own;
 mod params;
 mod parts;
+mod searching;
 mod sets;
+mod slices;
 mod starts;
 mod store;
 mod visitor;
