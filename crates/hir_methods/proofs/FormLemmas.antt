@@ -39,12 +39,12 @@ use Rattle.hir_methods.specs.Types.{function_type_errors, function_types, method
 use Rattle.hir_methods.specs.Writers.{trailing_writer}
 
 -- what numbers are refused for is a fault of uses
-whole_lowered : (declared : LifetimeEnv) (us : List Placed) → FineBy IsLowered (signature_numbers declared us)
+pub whole_lowered : (declared : LifetimeEnv) (us : List Placed) → FineBy IsLowered (signature_numbers declared us)
 whole_lowered declared us =
     elim (nat_lt most (length declared.nodes)) as (λ b. FineBy IsLowered (if b then Err (fault.Elide elide.TooManyLifetimes) else all_answers (answers declared us)))
     [ true ↦ tt | false ↦ answers_lowered declared us ]
 
-tells_itself : {A : Type 0} (declared : LifetimeEnv) (q : Result A NumberFault) → FineBy IsLowered q → IfErr q (λ e. FaultTold declared e q)
+pub tells_itself : {A : Type 0} (declared : LifetimeEnv) (q : Result A NumberFault) → FineBy IsLowered q → IfErr q (λ e. FaultTold declared e q)
 tells_itself declared (Ok x) fine = tt
 tells_itself declared (Err fault.NoMemory) fine = tt
 tells_itself declared (Err fault.UnresolvedPath) fine = refl
@@ -58,7 +58,7 @@ tells_itself declared (Err (fault.Elide elide.BadIdent)) fine = absurd fine
 tells_itself declared (Err (fault.Elide elide.NoMemory)) fine = absurd fine
 
 -- such a fault is told
-fault_told : (e : NumberFault) → IsLowered e → IsOfElision e → number_errors e ≡ [] → ⊥
+pub fault_told : (e : NumberFault) → IsLowered e → IsOfElision e → number_errors e ≡ [] → ⊥
 fault_told fault.NoMemory lowered of none = lowered
 fault_told fault.UnresolvedPath lowered of none = of
 fault_told fault.LifetimeArity lowered of none = of

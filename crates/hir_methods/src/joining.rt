@@ -7,7 +7,7 @@ use bridge_decl::{Items, NoMemory};
 use std::alloc::Global;
 
 /// A part that lacks something.
-pub(crate) trait Lacking: Drop {
+pub trait Lacking: Drop {
     /// What it lacks.
     type Lack: Drop;
     /// What it is with that.
@@ -54,8 +54,9 @@ pub(crate) fn join<P: Lacking>(
     Ok(joined)
 }
 
-/// The same beside something else, which is let go where there is no memory.
-pub(crate) fn join_beside<P: Lacking, R: Drop>(
+/// Each part with what it lacks, as far as there are both, beside something else: that is let go where
+/// there is no memory.
+pub fn join_beside<P: Lacking, R: Drop>(
     alloc: Global,
     rest: R,
     parts: Items<P>,

@@ -58,5 +58,7 @@ mod whole;
 mod writers;
 
 pub use functions::lower_function;
+pub use joining::{Lacking, join_beside};
 pub use laws::what_is_fine_is_made;
 pub use methods::lower_method;
+pub use reading::{read_docs, read_marks};

@@ -13,9 +13,10 @@ use hir_docs::Docs;
 use hir_reports::ErrorStore;
 use std::alloc::Global;
 
-/// The marks of a declaration, which start from those of its parent.
+/// The marks of a declaration, which start from those of its parent. What they break is told. `NoMemory`
+/// where there is no memory for them or for the reports.
 #[tactic(auto, using(hir_heads::proofs::Stores::added_keeps))]
-pub(crate) fn read_marks<V: AttributeValidator>(
+pub fn read_marks<V: AttributeValidator>(
     alloc: Global,
     attrs: &bridge_decl::Attrs,
     parent: Attrs,
@@ -47,9 +48,10 @@ pub(crate) fn read_own_marks<V: AttributeValidator>(
     read_marks(alloc, attrs, Attrs::empty(alloc), validator, errors)
 }
 
-/// The documents of a declaration.
+/// The documents of a declaration. The faults of their conditions are told. `NoMemory` where there is no
+/// memory for them or for the reports.
 #[tactic(auto, using(hir_heads::proofs::Stores::added_keeps))]
-pub(crate) fn read_docs<V: AttributeValidator>(
+pub fn read_docs<V: AttributeValidator>(
     alloc: Global,
     docs: &bridge_decl::Docs,
     validator: &V,

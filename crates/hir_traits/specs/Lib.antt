@@ -1,0 +1,5 @@
+pub mod TraitStages
+pub mod TraitTypes
+pub mod TraitMethods
+pub mod Traits
+pub mod inside

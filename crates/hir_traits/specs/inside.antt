@@ -1,0 +1,4 @@
+-- What the code keeps on its way.
+pub mod Parts
+pub mod Numbering
+pub mod Walk
