@@ -1,6 +1,6 @@
 -- What is told nothing of has a form.
 use Rattle.std.proofs.Common.{◌≡◌, List, [], ◌∷◌, ◌++◌, Bool, true, false, map, Option, Some, None, Result, Ok, Err, is_some, refl, sym, ap, ◌∙◌}
-use Rattle.std.specs.Prelude.{ℕ, IfErr, filter, not, if◌then◌else◌}
+use Rattle.std.specs.Prelude.{ℕ, IfErr, not, if◌then◌else◌}
 use Rattle.std.specs.List.{flat_map}
 use Rattle.bridge_ast.specs.declared.place.ItemPlace.{ItemPlace}
 use Rattle.bridge_decl.specs.declared.traits.Trait.{Trait}
@@ -43,7 +43,6 @@ use Rattle.hir_traits.specs.TraitMethods.{enabled_trait_method_errors, method_ca
 use Rattle.hir_traits.specs.TraitStages.{trait_breached_stage, trait_named_stage, trait_numbered_stage, trait_stage_errors, trait_stage_form}
 use Rattle.hir_traits.specs.TraitTypes.{trait_judged_errors, trait_method_type_errors, trait_method_types, trait_output_errors, trait_output_form, trait_param_errors, trait_params_form, trait_types_form}
 use Rattle.hir_traits.specs.Traits.{enabled_methods, item_reports, methods_unless_disabled, own_trait_errors, subitem_reports, trait_form, trait_methods_form, trait_methods_reports, trait_reports, trait_with}
-use Rattle.hir_traits.specs.declared.judging.TraitMethodTypes.{TraitMethodTypes}
 
 -- ---- types that are judged
 

@@ -4,7 +4,7 @@ use Rattle.std.specs.Prelude.{IfOk, OnErr, OnOk, option_map}
 use Rattle.std.specs.List.{flat_map}
 use Rattle.std.proofs.Common.{append-nil}
 use Rattle.std.proofs.lemmas.Grind.{flat_map-append}
-use Rattle.std.proofs.lemmas.List.{map_more, map-append, take_more}
+use Rattle.std.proofs.lemmas.List.{map-append, take_more}
 use Rattle.bridge_grid.specs.Telling.{fault_error}
 use Rattle.bridge_grid.specs.declared.fault.TypeFault.{TypeFault}
 use Rattle.hir_form.specs.Judging.{IsJudged}

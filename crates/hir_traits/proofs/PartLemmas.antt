@@ -1,18 +1,12 @@
 -- What is made of parts, where nothing is told of any.
-use Rattle.std.proofs.Common.{◌≡◌, ℕ, List, [], ◌∷◌, ◌++◌, Option, Some, None, ap, ◌∙◌}
-use Rattle.std.specs.Prelude.{option_map}
+use Rattle.std.proofs.Common.{ℕ, List, ◌++◌, Option, Some, ap, ◌∙◌}
 use Rattle.hir_docs.specs.declared.docs.Docs.{Docs}
 use Rattle.hir_heads.specs.Told.{MadeUnlessTold}
 use Rattle.hir_life.specs.Environment.{Environment}
 use Rattle.hir_number.proofs.ElisionLemmas.{none_of}
 use Rattle.hir_reports.specs.declared.report.LoweringError.{LoweringError}
 use Rattle.hir_traits.specs.declared.heads.NamedParam.{NamedParam}
-use Rattle.hir_traits.specs.declared.own.TraitNames.{TraitNames}
-use Rattle.hir_traits.specs.inside.Parts.{both_names, method_headed, named_as}
-
--- a parameter has its name
-pub named_made : (x : List ℕ) (ns : List LoweringError) (name : Option (List ℕ)) → MadeUnlessTold ns x name → MadeUnlessTold ns (named_as x) (option_map named_as name)
-named_made x ns name one = λ none. ap (option_map named_as) (one none)
+use Rattle.hir_traits.specs.inside.Parts.{both_names, method_headed}
 
 -- a method has a name and parameters
 pub headed_made :

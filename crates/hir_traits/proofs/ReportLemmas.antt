@@ -1,10 +1,10 @@
 -- What a store holds where the place of the next report changes, and what is made where nothing is reported.
-use Rattle.std.proofs.Common.{◌≡◌, ℕ, List, [], ◌∷◌, ◌++◌, map, Option, Some, None, refl, sym, ap, ◌∙◌, append_assoc, append-nil}
+use Rattle.std.proofs.Common.{◌≡◌, ℕ, List, [], ◌++◌, Option, Some, None, refl, sym, ap, ◌∙◌, append_assoc, append-nil}
 use Rattle.std.specs.Prelude.{option_map}
 use Rattle.hir_heads.specs.Told.{MadeUnlessTold}
 use Rattle.hir_methods.specs.inside.Parts.{paired}
 use Rattle.hir_modules.specs.Holding.{HoldsStill}
-use Rattle.hir_reports.specs.Store.{Held, Keeps, added, at_item, at_place, at_subitem, told_at}
+use Rattle.hir_reports.specs.Store.{Held, Keeps, added, at_item, at_place, at_subitem}
 use Rattle.hir_reports.specs.declared.report.LoweringError.{LoweringError}
 use Rattle.hir_reports.specs.declared.report.LoweringReport.{LoweringReport}
 use Rattle.hir_traits.proofs.WalkLemmas.{both_none, untold}
@@ -15,9 +15,6 @@ use Rattle.hir_traits.specs.inside.Walk.{GivenIfUnreported}
 
 keeps_itself : (held : Held) → Keeps held held
 keeps_itself held = record { more = []; reports = sym (append-nil held.reports); place = refl }
-
-pub holds_itself : (held : Held) → HoldsStill held held
-holds_itself held = record { more = []; reports = sym (append-nil held.reports) }
 
 holds_after : (earlier old new : Held) → HoldsStill earlier old → Keeps old new → HoldsStill earlier new
 holds_after earlier old new holds keeps = record {

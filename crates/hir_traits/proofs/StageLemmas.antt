@@ -1,5 +1,5 @@
 -- What is told and made of the types of a trait's method is by the stage that the declaration gives.
-use Rattle.std.proofs.Common.{◌≡◌, ◌≢◌, List, [], ◌∷◌, map, Option, None, Result, Ok, Err, refl, sym, ap, subst, ◌∙◌}
+use Rattle.std.proofs.Common.{◌≡◌, ◌≢◌, List, [], map, Option, Result, Ok, Err, refl, sym, ap, ◌∙◌}
 use Rattle.std.specs.Prelude.{IfErr, IfOk, OnOk}
 use Rattle.bridge_ast.specs.declared.place.ItemPlace.{ItemPlace}
 use Rattle.bridge_decl.specs.declared.lifetimes.LifetimeEnv.{LifetimeEnv}
@@ -25,7 +25,7 @@ use Rattle.hir_reports.specs.declared.report.LoweringError.{LoweringError}
 use Rattle.hir_signatures.specs.Errors.{breach_error}
 use Rattle.hir_stages.proofs.Filled.{trait_method_is_filled}
 use Rattle.hir_stages.specs.Numbering.{filled_trait_method}
-use Rattle.hir_traits.specs.TraitStages.{TraitMethodStage, TraitBreached, TraitJudged, TraitMisnamed, trait_breached_stage, trait_method_stage, trait_named_stage, trait_numbered_stage, trait_stage_errors, trait_stage_form}
+use Rattle.hir_traits.specs.TraitStages.{TraitJudged, trait_breached_stage, trait_method_stage, trait_named_stage, trait_numbered_stage, trait_stage_errors, trait_stage_form}
 use Rattle.hir_traits.specs.inside.Numbering.{trait_stage_of}
 
 -- why a lifetime has no number, where all names are identifiers
@@ -41,15 +41,6 @@ of_numbers declared numbers (fault.Elide elide.TooManyLifetimes) idents of told 
 of_numbers declared numbers (fault.Elide elide.BadIdent) idents of told other = absurd (told idents)
 of_numbers declared numbers (fault.Elide elide.NoMemory) idents of told other = absurd of
 of_numbers declared numbers fault.NoMemory idents of told other = absurd (other refl)
-
--- with breaches, or with a name that is none
-with_breaches : (bs : List Broken) (rest : TraitMethodStage) → bs ≢ [] → trait_breached_stage rest bs ≡ TraitBreached
-with_breaches [] rest some = absurd (some refl)
-with_breaches (b ∷ bs) rest some = refl
-
-with_others : (es : List LoweringError) (rest : TraitMethodStage) → es ≢ [] → trait_named_stage rest es ≡ TraitMisnamed
-with_others [] rest some = absurd (some refl)
-with_others (e ∷ es) rest some = refl
 
 -- what is told where it was numbered has nothing to do with breaches
 same_errors : (bs : List Broken) (judged : NumberedTraitMethod → List LoweringError) (r : Result NumberedTraitMethod NumberFault)
@@ -107,27 +98,3 @@ module _ (names : Naming) (place : ItemPlace) (method : TraitMethod) where
     numbered_given form (Ok made) r is memory given = λ none.
         given (numbered_errors r (is memory) ∙ none) ∙ ap (trait_stage_form form) (comes r (is memory))
     numbered_given form (Err e) r is memory given = tt
-
-    -- with breaches each is told, and nothing is made
-    pub breached_told : trait_method_breaches names place method ≢ []
-        → map breach_error (trait_method_breaches names place method) ≡ trait_stage_errors (trait_method_breaches names place method) judged (trait_method_stage names place method)
-    breached_told some = sym (ap (trait_stage_errors (trait_method_breaches names place method) judged) (with_breaches (trait_method_breaches names place method) _ some))
-
-    -- with a name that is no identifier nothing is told, and nothing is made
-    misnamed : trait_method_breaches names place method ≡ [] → lifetime_errors method.lifetimes ≢ [] → trait_method_stage names place method ≡ TraitMisnamed
-    misnamed none some =
-        let numbered = trait_numbered_stage (filled_trait_method names method) (signature_numbers method.lifetimes (trait_method_uses names method)) in
-        ap (trait_breached_stage (trait_named_stage numbered (lifetime_errors method.lifetimes))) none ∙ with_others (lifetime_errors method.lifetimes) numbered some
-
-    pub misnamed_told : trait_method_breaches names place method ≡ [] → lifetime_errors method.lifetimes ≢ []
-        → map breach_error (trait_method_breaches names place method) ≡ trait_stage_errors (trait_method_breaches names place method) judged (trait_method_stage names place method)
-    misnamed_told none some =
-        ap (map breach_error) none ∙ sym (ap (trait_stage_errors (trait_method_breaches names place method) judged) (misnamed none some))
-
-  pub breached_given : {A : Type 0} (form : NumberedTraitMethod → Option A) → trait_method_breaches names place method ≢ []
-      → None ≡ trait_stage_form form (trait_method_stage names place method)
-  breached_given form some = sym (ap (trait_stage_form form) (with_breaches (trait_method_breaches names place method) _ some))
-
-  pub misnamed_given : {A : Type 0} (form : NumberedTraitMethod → Option A) → trait_method_breaches names place method ≡ [] → lifetime_errors method.lifetimes ≢ []
-      → None ≡ trait_stage_form form (trait_method_stage names place method)
-  misnamed_given form none some = sym (ap (trait_stage_form form) (misnamed (λ n. []) none some))

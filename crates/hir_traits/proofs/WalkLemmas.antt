@@ -77,9 +77,6 @@ module _ {A : Type 0} (told : TraitMethod → List LoweringError) (marks : Trait
     pub reports : now.reports ≡ start.reports ++ reports_of start.place.«module» start.place.item (take i ms)
     pub given : reports_of start.place.«module» start.place.item (take i ms) ≡ [] → made ≡ form_of (take i ms)
 
-  pub walk_begins : (ms : List TraitMethod) (start : Held) → Walked ms 0 start start (Some [])
-  walk_begins ms start = record { «module» = refl; item = refl; reports = sym (append-nil start.reports); given = λ _. refl }
-
   -- one more method, which is lent
   pub walk_goes_on : (ms : List TraitMethod) (i : ℕ) (m : TraitMethod) (start old new : Held) (before after : Option (List A)) → Walked ms i start old before → i < length ms
       → m ≡ get_or ms i m → new ≡ added (at_subitem old (Some m.name)) (told m) → (told m ≡ [] → after ≡ with_next_method (marks m) before (form m))

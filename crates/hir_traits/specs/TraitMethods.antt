@@ -1,5 +1,5 @@
 -- A declared method of a trait: what is told of it, and what it is lowered to.
-use Rattle.std.specs.Prelude.{ℕ, List, ◌++◌, map, Option, Some, option_map}
+use Rattle.std.specs.Prelude.{List, ◌++◌, map, Option, Some, option_map}
 use Rattle.std.specs.List.{flat_map}
 use Rattle.bridge_ast.specs.declared.place.ItemPlace.{ItemPlace}
 use Rattle.bridge_decl.specs.declared.methods.Param.{Param}
