@@ -13,7 +13,7 @@ ghost use Rattle.hir_traits.specs.inside.Walk.{GivenIfUnreported};
 use crate::choosing::{kept_if, paired};
 use crate::lowering::Lowering;
 use crate::methods::lower_methods;
-use crate::own::{OwnHead, TraitNames, lower_own};
+use crate::own::{OwnHead, lower_own};
 use bridge_ast::ItemPlace;
 use bridge_decl::{Items, NoMemory, Trait};
 use hir_attrs::Attrs;
