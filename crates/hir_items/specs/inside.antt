@@ -1,0 +1,4 @@
+pub mod Reported
+pub mod Joining
+pub mod Titles
+pub mod OpaqueParts
