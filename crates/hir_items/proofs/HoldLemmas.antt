@@ -1,8 +1,7 @@
 -- What a store still holds.
-use Rattle.std.proofs.Common.{◌≡◌, List, [], ◌++◌, refl, sym, ap, ◌∙◌, append_assoc, append-nil}
+use Rattle.std.proofs.Common.{◌≡◌, [], ◌++◌, refl, sym, ap, ◌∙◌, append_assoc, append-nil}
 use Rattle.hir_modules.specs.Holding.{HoldsStill}
 use Rattle.hir_reports.specs.Store.{Held, Keeps}
-use Rattle.hir_reports.specs.declared.report.LoweringReport.{LoweringReport}
 
 keeps_itself : (held : Held) → Keeps held held
 keeps_itself held = record { more = []; reports = sym (append-nil held.reports); place = refl }

@@ -3,5 +3,7 @@ pub mod Inheriting
 pub mod Placing
 pub mod TypeMethods
 pub mod Opaques
+pub mod Enums
+pub mod Structs
 pub mod FreeFunctions
 pub mod inside

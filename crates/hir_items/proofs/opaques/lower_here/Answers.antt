@@ -1,13 +1,12 @@
-use Rattle.std.proofs.Common.{◌≡◌, ℕ, List, ◌++◌, map, Some, ap, sym, subst, ◌∙◌}
+use Rattle.std.proofs.Common.{◌≡◌, ℕ, List, ◌++◌, map, Some, ap, sym, subst}
 use Rattle.std.proofs.lemmas.List.Elements.{All-head, All-tail}
 use Rattle.std.specs.List.{All}
-use Rattle.std.specs.Prelude.{IfOk, OnOk, option_map}
+use Rattle.std.specs.Prelude.{IfOk}
 use Rattle.bridge_decl.specs.Lifetimes.{IsSoundEnvironment}
 use Rattle.bridge_decl.specs.declared.methods.Method.{Method}
-use Rattle.hir_form.specs.ReturnForms.{both_given}
 use Rattle.hir_heads.specs.Heads.{notes_errors, notes_form}
 use Rattle.hir_heads.specs.declared.notes.Notes.{Notes}
-use Rattle.hir_methods.proofs.Outcomes.{and_so, and_so_of}
+use Rattle.hir_methods.proofs.Outcomes.{and_so}
 use Rattle.hir_reports.specs.Store.{Held}
 use Rattle.hir_reports.specs.declared.report.LoweringError.{LoweringError}
 use Rattle.hir_reports.specs.declared.report.LoweringReport.{LoweringReport}

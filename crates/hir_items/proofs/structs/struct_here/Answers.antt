@@ -1,0 +1,92 @@
+use Rattle.std.proofs.Common.{◌≡◌, ℕ, List, ◌++◌, map, ap, sym, subst}
+use Rattle.std.proofs.lemmas.List.Elements.{All-head, All-tail}
+use Rattle.std.specs.List.{All}
+use Rattle.std.specs.Prelude.{IfOk}
+use Rattle.bridge_decl.specs.Lifetimes.{IsSoundEnvironment}
+use Rattle.bridge_decl.specs.declared.methods.Method.{Method}
+use Rattle.hir_heads.specs.Heads.{notes_errors, notes_form}
+use Rattle.hir_heads.specs.declared.notes.Notes.{Notes}
+use Rattle.hir_methods.proofs.Outcomes.{and_so}
+use Rattle.hir_reports.specs.Store.{Held}
+use Rattle.hir_reports.specs.declared.report.LoweringError.{LoweringError}
+use Rattle.hir_reports.specs.declared.report.LoweringReport.{LoweringReport}
+use Rattle.hir_items.proofs.HoldLemmas.{held_on}
+use Rattle.hir_items.proofs.ItemLemmas.{Parts, defined_on, item_kept, item_made, item_told, noted_kept}
+use Rattle.hir_items.specs.Inheriting.{item_marks, item_start}
+use Rattle.hir_items.specs.Setting.{setting}
+use Rattle.hir_items.specs.TypeMethods.{type_method_form, type_method_reports}
+use Rattle.hir_items.specs.inside.Reported.{GivenUnlessReported}
+use Rattle.hir_fields.specs.Fields.{fields_form}
+use Rattle.hir_items.proofs.PartLemmas.{struct_with_parts}
+use Rattle.hir_items.specs.Structs.{struct_own_errors, struct_reports, type_fields_form}
+use Rattle.hir_items.specs.inside.StructParts.{defined_struct, struct_own_form}
+use Rattle.hir_items.specs.inside.Titles.{title_form}
+use Rattle.hir_items.proofs.structs.struct_here.Goals as goal
+
+pub struct_itself-requires-clause-sound : goal.struct_itself-requires-clause-sound
+struct_itself-requires-clause-sound g c = All-head IsSoundEnvironment c.args.item.now.lifetimes (map (λ (m : Method). m.lifetime_env) c.args.item.now.methods) c.requires.sound
+
+pub lower_type_methods-methods-requires-clause-sound : goal.lower_type_methods-methods-requires-clause-sound
+lower_type_methods-methods-requires-clause-sound g c =
+    subst (λ (ms : List Method). All IsSoundEnvironment (map (λ (m : Method). m.lifetime_env) ms)) (sym c.as_slice-methods.ensures)
+    (All-tail IsSoundEnvironment c.args.item.now.lifetimes (map (λ (m : Method). m.lifetime_env) c.args.item.now.methods) c.requires.sound)
+
+pub returns-in_err-notes-clause-kept : goal.returns-in_err-notes-clause-kept
+returns-in_err-notes-clause-kept g c =
+    noted_kept c.args.errors.now c.set_item.new.self c.lower_type_notes.new.errors c.as_str.result.now c.set_item.ensures c.in_err-notes.ensures.kept
+
+pub returns-in_err-own-clause-kept : goal.returns-in_err-own-clause-kept
+returns-in_err-own-clause-kept g c =
+    held_on c.args.errors.now c.set_item.new.self c.struct_itself.new.errors (ap (λ (h : Held). h.reports) c.set_item.ensures)
+    (λ earlier keeps. c.in_err-own.ensures.kept earlier (c.in_ok-notes.ensures.kept earlier keeps))
+
+pub returns-clause-told : goal.returns-clause-told
+returns-clause-told g c = λ names is.
+    let s = setting (g.V.AttributeValidator.meaning c.args.lent.now.validator.now) c.args.lent.now names in
+    let item = c.args.item.now in
+    let set = c.args.module_set.now in
+    let of_notes = notes_errors s.backend (item_start set) item.docs item.attrs in
+    let of_own : Notes → List LoweringError = λ n. struct_own_errors s n.attrs item in
+    let of_methods : Notes → List Method → List (List ℕ) → List ℕ → List LoweringReport = λ n ms path name. type_method_reports s path name c.args.place set n.attrs ms in
+    let parts : Parts of_notes of_own of_methods c.in_ok-notes.notes (notes_form s.backend (item_start set) item.docs item.attrs) c.as_slice-methods.result.now item.methods
+    c.as_str.result.now item.name c.args.errors.now c.set_item.new.self c.lower_type_notes.new.errors c.struct_itself.new.errors = record {
+      reads = c.in_ok-notes.ensures.made;
+      lends = c.as_slice-methods.ensures;
+      shows = c.as_str.ensures;
+      goes = c.set_item.ensures;
+      first = c.in_ok-notes.ensures.told;
+      second = c.in_ok-own.ensures.told names is;
+    } in
+    defined_on (c.lower_type_methods-methods.new.errors.reports ≡ c.args.errors.now.reports ++ struct_reports s c.args.errors.now.place.«module» c.args.place set item)
+    defined_struct c.in_ok-notes.notes c.in_ok-own.own c.lower_type_methods-methods.result c.define.result c.define.ensures
+    (and_so c.lower_type_methods-methods.result (item_told of_notes of_own of_methods parts c.lower_type_methods-methods.new.errors) (c.lower_type_methods-methods.ensures.told names is))
+
+pub returns-clause-made : goal.returns-clause-made
+returns-clause-made g c = λ names is.
+    let s = setting (g.V.AttributeValidator.meaning c.args.lent.now.validator.now) c.args.lent.now names in
+    let item = c.args.item.now in
+    let set = c.args.module_set.now in
+    let of_notes = notes_errors s.backend (item_start set) item.docs item.attrs in
+    let of_own : Notes → List LoweringError = λ n. struct_own_errors s n.attrs item in
+    let of_methods : Notes → List Method → List (List ℕ) → List ℕ → List LoweringReport = λ n ms path name. type_method_reports s path name c.args.place set n.attrs ms in
+    let parts : Parts of_notes of_own of_methods c.in_ok-notes.notes (notes_form s.backend (item_start set) item.docs item.attrs) c.as_slice-methods.result.now item.methods
+    c.as_str.result.now item.name c.args.errors.now c.set_item.new.self c.lower_type_notes.new.errors c.struct_itself.new.errors = record {
+      reads = c.in_ok-notes.ensures.made;
+      lends = c.as_slice-methods.ensures;
+      shows = c.as_str.ensures;
+      goes = c.set_item.ensures;
+      first = c.in_ok-notes.ensures.told;
+      second = c.in_ok-own.ensures.told names is;
+    } in
+    let marks = item_marks s.backend set item.attrs in
+    let made =
+    item_made of_notes of_own of_methods parts defined_struct (λ (n : Notes). struct_own_form s n.attrs item) (λ (n : Notes) (ms : List Method). type_method_form s c.args.place set n.attrs ms)
+    c.in_ok-own.own c.lower_type_methods-methods.result c.define.result (c.in_ok-own.ensures.made names is) (c.lower_type_methods-methods.ensures.made names is) c.define.ensures in
+    subst (λ form. IfOk c.define.result (GivenUnlessReported (struct_reports s c.args.errors.now.place.«module» c.args.place set item) form))
+    (struct_with_parts (notes_form s.backend (item_start set) item.docs item.attrs) (title_form item.name item.lifetimes)
+    (type_fields_form marks (fields_form s.backend s.catalog s.names item)) (type_method_form s c.args.place set marks item.methods)) made
+
+pub returns-clause-kept : goal.returns-clause-kept
+returns-clause-kept g c =
+    item_kept c.args.errors.now c.set_item.new.self c.lower_type_notes.new.errors c.struct_itself.new.errors c.lower_type_methods-methods.new.errors c.as_str.result.now c.set_item.ensures
+    c.in_ok-notes.ensures.kept c.in_ok-own.ensures.kept c.lower_type_methods-methods.ensures.kept
