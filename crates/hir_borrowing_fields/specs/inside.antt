@@ -4,3 +4,4 @@ pub mod Findings
 pub mod Carried
 pub mod TypeParts
 pub mod Walks
+pub mod Meeting

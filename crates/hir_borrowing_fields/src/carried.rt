@@ -1,15 +1,31 @@
 //! What leaves carry.
 
-ghost use Rattle.std.specs.Prelude.{◌≡◌, ◌++◌, IfOk, OnOk, length};
+ghost use Rattle.std.specs.Prelude.{◌≡◌, ◌++◌, ◌||◌, ℕ, not, IfOk, OnOk, length};
 ghost use Rattle.hir_life.specs.Substitution.{AreBelow, subst_each};
+ghost use Rattle.hir_life.specs.declared.maybe_static.MaybeStatic.{MaybeStatic};
 ghost use Rattle.hir_types.specs.Slices.{at_most_one};
 ghost use Rattle.hir_skeleton.specs.Leaves.{are_same, each_once};
 ghost use Rattle.hir_borrowing_fields.specs.inside.Carried.{is_among, with_once};
+ghost use Rattle.hir_borrowing_fields.specs.inside.Meeting.{AreMet, was_met};
 ghost use Rattle.hir_borrowing_fields.specs.inside.TypeParts.{carrier_lifetimes};
 
 use bridge_decl::NoMemory;
 use hir_life::{Lifetime, Lifetimes, MaybeStatic};
 use std::alloc::Global;
+use std::collections::BTreeSet;
+
+/// Of so many lifetimes each is compared with those before it: leaves have few, and a set takes
+/// memory. Of more the set of those that were met is kept.
+const FEW_LIFETIMES: usize = 16;
+
+/// Which lifetimes were met.
+#[derive(Drop)]
+struct MetLifetimes {
+    /// Whether `'static` was.
+    is_static: bool,
+    /// The others.
+    numbers: BTreeSet<Lifetime>,
+}
 
 /// Whether both are the same.
 fn are_same(one: &MaybeStatic<Lifetime>, other: &MaybeStatic<Lifetime>) -> bool
@@ -40,8 +56,8 @@ fn add_once(once: &mut Lifetimes, lifetime: &MaybeStatic<Lifetime>) -> Result<()
     once.push(*lifetime)
 }
 
-/// Each lifetime of the list once, at its first place.
-fn each_once(alloc: Global, lifetimes: &Lifetimes) -> Result<Lifetimes, NoMemory>
+/// Each lifetime of a short list once, at its first place.
+fn each_once_of_few(alloc: Global, lifetimes: &Lifetimes) -> Result<Lifetimes, NoMemory>
     ensures { IfOk result (λ once. once ≡ each_once lifetimes.now) }
 {
     let mut once = Lifetimes::new(alloc);
@@ -49,6 +65,64 @@ fn each_once(alloc: Global, lifetimes: &Lifetimes) -> Result<Lifetimes, NoMemory
         add_once(&mut once, lifetime)?;
     }
     Ok(once)
+}
+
+/// Notes that the lifetime was met, and answers whether it is the first time.
+fn meet(met: &mut MetLifetimes, lifetime: &MaybeStatic<Lifetime>) -> Result<bool, NoMemory>
+    ensures first { IfOk result (λ first. first ≡ not (was_met met.old lifetime.now)) }
+    ensures met { OnOk result ((m : MaybeStatic ℕ) → was_met met.new m
+        ≡ (was_met met.old m || are_same lifetime.now m)) }
+{
+    match lifetime {
+        MaybeStatic::Static => {
+            let first = !met.is_static;
+            met.is_static = true;
+            Ok(first)
+        }
+        MaybeStatic::NonStatic(lifetime) => Ok(met.numbers.insert(*lifetime)?),
+    }
+}
+
+/// Adds the lifetime, unless it was met.
+fn add_unmet(
+    once: &mut Lifetimes,
+    met: &mut MetLifetimes,
+    lifetime: &MaybeStatic<Lifetime>,
+) -> Result<(), NoMemory>
+    requires { AreMet met.old once.old }
+    ensures once { OnOk result (once.new ≡ with_once once.old lifetime.now) }
+    ensures met { OnOk result (AreMet met.new once.new) }
+{
+    if meet(met, lifetime)? {
+        once.push(*lifetime)?;
+    }
+    Ok(())
+}
+
+/// The same of a long list.
+fn each_once_of_many(alloc: Global, lifetimes: &Lifetimes) -> Result<Lifetimes, NoMemory>
+    ensures { IfOk result (λ once. once ≡ each_once lifetimes.now) }
+{
+    let mut once = Lifetimes::new(alloc);
+    let mut met = MetLifetimes {
+        is_static: false,
+        numbers: BTreeSet::new(alloc),
+    };
+    for lifetime in lifetimes.as_slice() {
+        add_unmet(&mut once, &mut met, lifetime)?;
+    }
+    Ok(once)
+}
+
+/// Each lifetime of the list once, at its first place.
+fn each_once(alloc: Global, lifetimes: &Lifetimes) -> Result<Lifetimes, NoMemory>
+    ensures { IfOk result (λ once. once ≡ each_once lifetimes.now) }
+{
+    if lifetimes.len() > FEW_LIFETIMES {
+        each_once_of_many(alloc, lifetimes)
+    } else {
+        each_once_of_few(alloc, lifetimes)
+    }
 }
 
 /// Adds the lifetime, where there is one.

@@ -1,7 +1,7 @@
 use Rattle.std.proofs.Common.{ap, ◌∙◌}
 use Rattle.hir_borrowing_fields.specs.inside.Carried.{with_once}
 use Rattle.hir_borrowing_fields.proofs.CarriedLemmas.{once_next}
-use Rattle.hir_borrowing_fields.proofs.carried.each_once.Goals as goal
+use Rattle.hir_borrowing_fields.proofs.carried.each_once_of_few.Goals as goal
 
 pub loop-lifetime-preserved : goal.loop-lifetime-preserved
 loop-lifetime-preserved c =
