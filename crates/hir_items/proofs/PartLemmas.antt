@@ -11,7 +11,8 @@ use Rattle.hir_form.specs.ReturnForms.{both_given}
 use Rattle.hir_heads.specs.Told.{MadeUnlessTold}
 use Rattle.hir_heads.specs.declared.notes.Notes.{Notes}
 use Rattle.hir_methods.proofs.MadeLemmas.{both_made}
-use Rattle.hir_methods.specs.inside.Parts.{GivenUnlessTold, paired}
+use Rattle.hir_methods.specs.Choosing.{paired}
+use Rattle.hir_methods.specs.inside.Parts.{GivenUnlessTold}
 use Rattle.hir_number.proofs.ElisionLemmas.{none_of}
 use Rattle.hir_reports.specs.declared.report.LoweringError.{LoweringError}
 use Rattle.hir_reports.specs.declared.rule.Rule.TheVariants as rule

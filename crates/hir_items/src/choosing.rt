@@ -3,7 +3,6 @@
 ghost use Rattle.std.specs.Prelude.{◌≡◌, ◌++◌, ◌<◌, [], None, OnOk, length};
 ghost use Rattle.std.specs.List.{cons_option};
 ghost use Rattle.hir_items.specs.inside.Joining.{after};
-ghost use Rattle.hir_methods.specs.inside.Parts.{paired};
 
 use bridge_decl::{Items, NoMemory};
 use hir_reports::ErrorStore;
@@ -27,19 +26,6 @@ pub(crate) fn after<T: Drop>(made: T, done: Result<(), NoMemory>) -> Result<T, N
     match done {
         Ok(()) => Ok(made),
         Err(error) => Err(error),
-    }
-}
-
-/// Both, where there are both.
-pub(crate) fn paired<A: Drop, B: Drop>(first: Option<A>, second: Option<B>) -> Option<(A, B)>
-    ensures { result ≡ paired first second }
-{
-    match first {
-        Some(first) => match second {
-            Some(second) => Some((first, second)),
-            None => None,
-        },
-        None => None,
     }
 }
 

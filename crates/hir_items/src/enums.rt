@@ -13,7 +13,7 @@ ghost use Rattle.hir_modules.specs.Holding.{HoldsStill};
 ghost use Rattle.hir_number.specs.Naming.{IsNaming, Naming};
 ghost use Rattle.hir_reports.specs.Store.{Held, Keeps, added};
 
-use crate::choosing::{paired, unless_more};
+use crate::choosing::unless_more;
 use crate::defining::{Own, define};
 use crate::heads::lower_type_notes;
 use crate::loans::Lowering;
@@ -26,6 +26,7 @@ use hir_definitions::{EnumDef, EnumVariant, Method, SpecialMethodPresence, Typin
 use hir_fields::lower_variants;
 use hir_heads::{Notes, lower_ident};
 use hir_ids::Ident;
+use hir_methods::paired;
 use hir_reports::ErrorStore;
 use std::alloc::Global;
 

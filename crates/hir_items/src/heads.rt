@@ -9,13 +9,13 @@ ghost use Rattle.hir_items.specs.Inheriting.{item_start};
 ghost use Rattle.hir_items.specs.inside.Titles.{title_form, titled};
 ghost use Rattle.hir_reports.specs.Store.{Held, Keeps, added};
 
-use crate::choosing::paired;
 use crate::loans::Lowering;
 use bridge_decl::{AttrInheritContext, IdentBuf, LifetimeEnv as Declared, NoMemory, Text};
 use hir_attrs::Attrs;
 use hir_backends::AttributeValidator;
 use hir_heads::{Notes, lower_ident, lower_lifetimes, lower_notes};
 use hir_life::LifetimeEnv;
+use hir_methods::paired;
 use hir_reports::ErrorStore;
 use std::alloc::Global;
 

@@ -14,7 +14,7 @@ ghost use Rattle.hir_modules.specs.Holding.{HoldsStill};
 ghost use Rattle.hir_number.specs.Naming.{IsNaming, Naming};
 ghost use Rattle.hir_reports.specs.Store.{Held, Keeps, added};
 
-use crate::choosing::{paired, unless_more};
+use crate::choosing::unless_more;
 use crate::defining::{Own, define};
 use crate::heads::{Title, lower_title, lower_type_notes};
 use crate::loans::Lowering;
@@ -28,6 +28,7 @@ use hir_definitions::{Method, OpaqueDef, SpecialMethodPresence, TypingUseInfo};
 use hir_elide::MOST_LIFETIMES;
 use hir_heads::{Notes, lower_ident};
 use hir_ids::Ident;
+use hir_methods::paired;
 use hir_reports::{ErrorStore, Rule};
 use std::alloc::Global;
 

@@ -16,7 +16,7 @@ ghost use Rattle.hir_modules.specs.Holding.{HoldsStill};
 ghost use Rattle.hir_number.specs.Naming.{IsNaming, Naming};
 ghost use Rattle.hir_reports.specs.Store.{Held, Keeps, added};
 
-use crate::choosing::{paired, unless_more};
+use crate::choosing::unless_more;
 use crate::defining::{Own, define};
 use crate::heads::{Title, lower_title, lower_type_notes};
 use crate::loans::Lowering;
@@ -33,6 +33,7 @@ use hir_definitions::{
 use hir_fields::{lower_fields, lower_out_fields};
 use hir_heads::Notes;
 use hir_ids::Ident;
+use hir_methods::paired;
 use hir_reports::{ErrorStore, Rule};
 use hir_types::{Everywhere, OutputOnly, TyPosition};
 use std::alloc::Global;

@@ -13,7 +13,8 @@ use Rattle.hir_methods.specs.declared.headings.Heading.{Heading}
 use Rattle.hir_methods.specs.declared.params.UntypedParam.{UntypedParam}
 use Rattle.hir_methods.specs.inside.Gathering.{gathered}
 use Rattle.hir_methods.specs.inside.Headings.{headed, named}
-use Rattle.hir_methods.specs.inside.Parts.{GivenUnlessTold, kept_with, paired}
+use Rattle.hir_methods.specs.Choosing.{kept_with, paired}
+use Rattle.hir_methods.specs.inside.Parts.{GivenUnlessTold}
 
 -- a heading has both names
 pub headed_made :

@@ -4,7 +4,7 @@ use Rattle.std.specs.Prelude.{IfOk, OnErr, OnOk}
 use Rattle.hir_heads.proofs.Stores.{added_keeps}
 use Rattle.hir_reports.specs.Store.{Held, Keeps, added}
 use Rattle.hir_reports.specs.declared.report.LoweringError.{LoweringError}
-use Rattle.hir_methods.specs.inside.Parts.{beside, paired}
+use Rattle.hir_methods.specs.Choosing.{beside, paired}
 
 -- what holds is what holds where a result is Ok
 pub always : {A E P : Type 0} (r : Result A E) → P → OnOk r P

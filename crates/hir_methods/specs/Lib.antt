@@ -1,5 +1,6 @@
 pub mod Writers
 pub mod Joining
+pub mod Choosing
 pub mod Untyped
 pub mod Types
 pub mod Methods

@@ -1,14 +1,14 @@
 //! What is made of several parts, some of which may be absent.
 
 ghost use Rattle.std.specs.Prelude.{◌≡◌, OnOk};
-ghost use Rattle.hir_methods.specs.inside.Parts.{beside, kept_if, kept_with, paired};
+ghost use Rattle.hir_methods.specs.Choosing.{beside, kept_if, kept_with, paired};
 
 use bridge_decl::{Items, NoMemory};
 
 // These are generic, so that a proof needn't look into what is let go where a part is absent.
 
 /// Both, where there are both.
-pub(crate) fn paired<A: Drop, B: Drop>(first: Option<A>, second: Option<B>) -> Option<(A, B)>
+pub fn paired<A: Drop, B: Drop>(first: Option<A>, second: Option<B>) -> Option<(A, B)>
     ensures { result ≡ paired first second }
 {
     match first {
@@ -21,7 +21,7 @@ pub(crate) fn paired<A: Drop, B: Drop>(first: Option<A>, second: Option<B>) -> O
 }
 
 /// Both, where there are both, unless there was no memory for the second.
-pub(crate) fn beside<A: Drop, B: Drop>(
+pub fn beside<A: Drop, B: Drop>(
     first: Option<A>,
     second: Result<Option<B>, NoMemory>,
 ) -> Result<Option<(A, B)>, NoMemory>
@@ -34,7 +34,7 @@ pub(crate) fn beside<A: Drop, B: Drop>(
 }
 
 /// Adds an item to a list, where there are both, and else lets go both.
-pub(crate) fn keep<T: Drop>(items: &mut Option<Items<T>>, item: Option<T>) -> Result<(), NoMemory>
+pub fn keep<T: Drop>(items: &mut Option<Items<T>>, item: Option<T>) -> Result<(), NoMemory>
     ensures { OnOk result (items.new ≡ kept_with items.old item) }
 {
     match items.take() {
@@ -50,7 +50,7 @@ pub(crate) fn keep<T: Drop>(items: &mut Option<Items<T>>, item: Option<T>) -> Re
 }
 
 /// What is made, if it stays.
-pub(crate) fn kept_if<T: Drop>(stays: bool, made: Option<T>) -> Option<T>
+pub fn kept_if<T: Drop>(stays: bool, made: Option<T>) -> Option<T>
     ensures { result ≡ kept_if stays made }
 {
     if stays { made } else { None }

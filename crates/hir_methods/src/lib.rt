@@ -57,6 +57,7 @@ mod types;
 mod whole;
 mod writers;
 
+pub use choosing::{beside, keep, kept_if, paired};
 pub use functions::lower_function;
 pub use joining::{Lacking, join_beside};
 pub use laws::what_is_fine_is_made;

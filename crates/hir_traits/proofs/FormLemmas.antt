@@ -19,6 +19,7 @@ use Rattle.hir_form.proofs.ParamLemmas.{callback_return_given, out_param_given}
 use Rattle.hir_form.specs.ParamForms.{all_given, out_type_form}
 use Rattle.hir_heads.specs.Heads.{lifetime_errors}
 use Rattle.hir_heads.specs.Names.{name_errors}
+use Rattle.hir_items.specs.Placing.{at_item_itself, at_method_of, where_enabled}
 use Rattle.hir_lower.specs.declared.config.LoweringConfig.{LoweringConfig}
 use Rattle.hir_methods.proofs.DisabledLemmas.{enabled_all}
 use Rattle.hir_methods.proofs.FormLemmas.{fault_told, tells_itself, whole_lowered}
@@ -42,7 +43,7 @@ use Rattle.hir_traits.proofs.WalkLemmas.{both_none, untold}
 use Rattle.hir_traits.specs.TraitMethods.{enabled_trait_method_errors, method_callback, param_name_errors, trait_method_errors, trait_method_form, trait_method_head, trait_method_head_errors}
 use Rattle.hir_traits.specs.TraitStages.{trait_breached_stage, trait_named_stage, trait_numbered_stage, trait_stage_errors, trait_stage_form}
 use Rattle.hir_traits.specs.TraitTypes.{trait_judged_errors, trait_method_type_errors, trait_method_types, trait_output_errors, trait_output_form, trait_param_errors, trait_params_form, trait_types_form}
-use Rattle.hir_traits.specs.Traits.{enabled_methods, item_reports, methods_unless_disabled, own_trait_errors, subitem_reports, trait_form, trait_methods_form, trait_methods_reports, trait_reports, trait_with}
+use Rattle.hir_traits.specs.Traits.{enabled_methods, own_trait_errors, trait_form, trait_methods_form, trait_methods_reports, trait_reports, trait_with}
 
 -- ---- types that are judged
 
@@ -127,7 +128,7 @@ module _ (backend : Backend) (support : BackendAttrSupport) (config : LoweringCo
         → is_some (trait_methods_form backend catalog names place attrs methods) ≡ true
     methods_formed [] none = refl
     methods_formed (method ∷ methods) none =
-        let parts = both_none (subitem_reports path item method.name (trait_method_errors backend support config catalog names place attrs method))
+        let parts = both_none (at_method_of path item method.name (trait_method_errors backend support config catalog names place attrs method))
         (trait_methods_reports backend support config catalog names place attrs path item methods) none in
         one_formed method methods (marks_of backend method.attrs attrs).disable refl
         (untold (at_place path item (Some method.name)) (trait_method_errors backend support config catalog names place attrs method) parts.0) (methods_formed methods parts.1)
@@ -138,7 +139,7 @@ module _ (backend : Backend) (support : BackendAttrSupport) (config : LoweringCo
       → is_some (trait_form backend catalog names place start item) ≡ true
   trait_formed start path item none =
       let attrs = marks_of backend item.attrs start in
-      let methods = methods_unless_disabled attrs item.methods in
-      let parts = both_none (item_reports path item.name (own_trait_errors backend support start item))
+      let methods = where_enabled attrs item.methods in
+      let parts = both_none (at_item_itself path item.name (own_trait_errors backend support start item))
       (trait_methods_reports backend support config catalog names place attrs path item.name methods) none in
       map_given (trait_with backend attrs item) (trait_methods_form backend catalog names place attrs methods) (methods_formed attrs path item.name methods parts.1)

@@ -12,7 +12,8 @@ use Rattle.hir_form.specs.ParamForms.{all_given}
 use Rattle.hir_form.specs.ReturnForms.{both_given}
 use Rattle.hir_heads.proofs.Stores.{added_keeps}
 use Rattle.hir_methods.proofs.StageLemmas.{unfaulted}
-use Rattle.hir_methods.specs.inside.Parts.{GivenUnlessTold, kept_with, paired}
+use Rattle.hir_methods.specs.Choosing.{kept_with, paired}
+use Rattle.hir_methods.specs.inside.Parts.{GivenUnlessTold}
 use Rattle.hir_number.proofs.ElisionLemmas.{none_of}
 use Rattle.hir_reports.specs.Store.{Held, Keeps, added}
 use Rattle.hir_reports.specs.declared.report.LoweringError.{LoweringError}

@@ -2,14 +2,14 @@
 use Rattle.std.proofs.Common.{◌≡◌, ℕ, List, [], ◌++◌, Option, Some, None, refl, sym, ap, ◌∙◌, append_assoc, append-nil}
 use Rattle.std.specs.Prelude.{option_map}
 use Rattle.hir_heads.specs.Told.{MadeUnlessTold}
-use Rattle.hir_methods.specs.inside.Parts.{paired}
+use Rattle.hir_items.specs.Placing.{at_item_itself}
+use Rattle.hir_items.specs.inside.Reported.{GivenUnlessReported}
+use Rattle.hir_methods.specs.Choosing.{paired}
 use Rattle.hir_modules.specs.Holding.{HoldsStill}
 use Rattle.hir_reports.specs.Store.{Held, Keeps, added, at_item, at_place, at_subitem}
 use Rattle.hir_reports.specs.declared.report.LoweringError.{LoweringError}
 use Rattle.hir_reports.specs.declared.report.LoweringReport.{LoweringReport}
 use Rattle.hir_traits.proofs.WalkLemmas.{both_none, untold}
-use Rattle.hir_traits.specs.Traits.{item_reports}
-use Rattle.hir_traits.specs.inside.Walk.{GivenIfUnreported}
 
 -- ---- what was held
 
@@ -37,10 +37,10 @@ holds_at_item earlier old new name holds keeps =
 
 pub told_within :
     (old mid : Held) (new : List LoweringReport) (name : List ℕ) (own : List LoweringError) (rest : List (List ℕ) → List ℕ → List LoweringReport) → mid ≡ added (at_item old name) own
-    → new ≡ mid.reports ++ rest mid.place.«module» mid.place.item → new ≡ old.reports ++ (item_reports old.place.«module» name own ++ rest old.place.«module» name)
+    → new ≡ mid.reports ++ rest mid.place.«module» mid.place.item → new ≡ old.reports ++ (at_item_itself old.place.«module» name own ++ rest old.place.«module» name)
 told_within old mid new name own rest before after =
     after ∙ ap (λ h. h.reports ++ rest h.place.«module» h.place.item) before
-    ∙ append_assoc old.reports (item_reports old.place.«module» name own) (rest old.place.«module» name)
+    ∙ append_assoc old.reports (at_item_itself old.place.«module» name own) (rest old.place.«module» name)
 
 -- ---- what is made
 
@@ -50,9 +50,9 @@ with_form whole x None = refl
 
 pub made_within :
     {A B C : Type 0} (whole : A → B → C) (x : A) (form : Option B) (first : Option A) (second : Option B) (path : List (List ℕ)) (name : List ℕ) (own : List LoweringError)
-    (rest : List LoweringReport) → MadeUnlessTold own x first → GivenIfUnreported rest form second
-    → GivenIfUnreported (item_reports path name own ++ rest) (option_map (whole x) form) (option_map (λ p. whole p.0 p.1) (paired first second))
+    (rest : List LoweringReport) → MadeUnlessTold own x first → GivenUnlessReported rest form second
+    → GivenUnlessReported (at_item_itself path name own ++ rest) (option_map (whole x) form) (option_map (λ p. whole p.0 p.1) (paired first second))
 made_within whole x form first second path name own rest one other = λ none.
-    let parts = both_none (item_reports path name own) rest none in
+    let parts = both_none (at_item_itself path name own) rest none in
     ap (λ a. option_map (λ p. whole p.0 p.1) (paired a second)) (one (untold (at_place path name None) own parts.0))
     ∙ ap (λ b. option_map (λ p. whole p.0 p.1) (paired (Some x) b)) (other parts.1) ∙ with_form whole x form

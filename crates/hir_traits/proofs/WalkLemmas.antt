@@ -7,13 +7,13 @@ use Rattle.std.proofs.lemmas.List.{map-append, take_all, take_more}
 use Rattle.std.proofs.lemmas.List.Elements.{filter-append}
 use Rattle.bridge_decl.specs.declared.traits.TraitMethod.{TraitMethod}
 use Rattle.hir_attrs.specs.declared.attrs.Attrs.{Attrs}
+use Rattle.hir_items.specs.Placing.{at_method_of}
 use Rattle.hir_reports.specs.Store.{Held, added, at_place, at_subitem, told_at}
 use Rattle.hir_reports.specs.declared.places.ErrorContext.{ErrorContext}
 use Rattle.hir_reports.specs.declared.report.LoweringError.{LoweringError}
 use Rattle.hir_reports.specs.declared.report.LoweringReport.{LoweringReport}
 use Rattle.hir_form.specs.ParamForms.{all_given}
-use Rattle.hir_methods.specs.inside.Parts.{kept_with}
-use Rattle.hir_traits.specs.Traits.{subitem_reports}
+use Rattle.hir_methods.specs.Choosing.{kept_with}
 use Rattle.hir_traits.specs.inside.Parts.{with_next_method}
 
 -- where nothing is reported, nothing is told
@@ -39,7 +39,7 @@ given_more (Some x ∷ xs) next = ap (option_map (λ rest. x ∷ rest)) (given_m
 
 module _ {A : Type 0} (told : TraitMethod → List LoweringError) (marks : TraitMethod → Attrs) (form : TraitMethod → Option A) where
   abbrev pub reports_of : List (List ℕ) → List ℕ → List TraitMethod → List LoweringReport
-  reports_of path item ms = flat_map (λ m. subitem_reports path item m.name (told m)) ms
+  reports_of path item ms = flat_map (λ m. at_method_of path item m.name (told m)) ms
 
   abbrev pub enabled_of : List TraitMethod → List TraitMethod
   enabled_of ms = filter (λ m. not (marks m).disable) ms
@@ -48,11 +48,11 @@ module _ {A : Type 0} (told : TraitMethod → List LoweringError) (marks : Trait
   form_of ms = all_given (map form (enabled_of ms))
 
   reports_more : (path : List (List ℕ)) (item : List ℕ) (ms : List TraitMethod) (i : ℕ) (m : TraitMethod) → i < length ms
-      → reports_of path item (take (i + 1) ms) ≡ reports_of path item (take i ms) ++ subitem_reports path item (get_or ms i m).name (told (get_or ms i m))
+      → reports_of path item (take (i + 1) ms) ≡ reports_of path item (take i ms) ++ at_method_of path item (get_or ms i m).name (told (get_or ms i m))
   reports_more path item ms i m within =
       ap (reports_of path item) (take_more ms i m within)
-      ∙ flat_map-append (λ m. subitem_reports path item m.name (told m)) (take i ms) (get_or ms i m ∷ [])
-      ∙ ap (λ rs. reports_of path item (take i ms) ++ rs) (append-nil (subitem_reports path item (get_or ms i m).name (told (get_or ms i m))))
+      ∙ flat_map-append (λ m. at_method_of path item m.name (told m)) (take i ms) (get_or ms i m ∷ [])
+      ∙ ap (λ rs. reports_of path item (take i ms) ++ rs) (append-nil (at_method_of path item (get_or ms i m).name (told (get_or ms i m))))
 
   -- by whether it is disabled
   form_after : (ms : List TraitMethod) (m : TraitMethod) (off : Bool) → (marks m).disable ≡ off
@@ -84,8 +84,8 @@ module _ {A : Type 0} (told : TraitMethod → List LoweringError) (marks : Trait
   walk_goes_on ms i m start old new before after walked within is step one =
       let path = start.place.«module» in
       let item = start.place.item in
-      let here : (x : TraitMethod) → x ≡ m → subitem_reports old.place.«module» old.place.item m.name (told m) ≡ subitem_reports path item x.name (told x) =
-      λ x same. (λ j. subitem_reports (walked.«module» j) (walked.item j) m.name (told m)) ∙ ap (λ y. subitem_reports path item y.name (told y)) (sym same) in
+      let here : (x : TraitMethod) → x ≡ m → at_method_of old.place.«module» old.place.item m.name (told m) ≡ at_method_of path item x.name (told x) =
+      λ x same. (λ j. at_method_of (walked.«module» j) (walked.item j) m.name (told m)) ∙ ap (λ y. at_method_of path item y.name (told y)) (sym same) in
       let more = reports_more path item ms i m within in
       record {
         «module» = ap (λ h. h.place.«module») step ∙ walked.«module»;
@@ -93,11 +93,11 @@ module _ {A : Type 0} (told : TraitMethod → List LoweringError) (marks : Trait
         reports =
             ap (λ h. h.reports) step
             ∙ (λ j. walked.reports j ++ here (get_or ms i m) (sym is) j)
-            ∙ append_assoc start.reports (reports_of path item (take i ms)) (subitem_reports path item (get_or ms i m).name (told (get_or ms i m)))
+            ∙ append_assoc start.reports (reports_of path item (take i ms)) (at_method_of path item (get_or ms i m).name (told (get_or ms i m)))
             ∙ ap (λ rs. start.reports ++ rs) (sym more);
         given = λ none.
-            let parts = both_none (reports_of path item (take i ms)) (subitem_reports path item (get_or ms i m).name (told (get_or ms i m))) (sym more ∙ none) in
-            let fine : told m ≡ [] = untold (at_place path item (Some m.name)) (told m) (subst (λ x. subitem_reports path item x.name (told x) ≡ []) (sym is) parts.1) in
+            let parts = both_none (reports_of path item (take i ms)) (at_method_of path item (get_or ms i m).name (told (get_or ms i m))) (sym more ∙ none) in
+            let fine : told m ≡ [] = untold (at_place path item (Some m.name)) (told m) (subst (λ x. at_method_of path item x.name (told x) ≡ []) (sym is) parts.1) in
             one fine ∙ ap (λ b. with_next_method (marks m) b (form m)) (walked.given parts.0)
             ∙ ap (λ x. with_next_method (marks x) (form_of (take i ms)) (form x)) is ∙ sym (form_more ms i m within);
       }

@@ -19,6 +19,8 @@ use Rattle.hir_elide.specs.Numbering.{most}
 use Rattle.hir_form.specs.ParamForms.{all_given}
 use Rattle.hir_heads.specs.Heads.{lifetime_errors, notes_errors}
 use Rattle.hir_heads.specs.Names.{name_errors}
+use Rattle.hir_items.specs.Opaques.{limit_errors}
+use Rattle.hir_items.specs.Placing.{at_item_itself, at_method_of, where_enabled}
 use Rattle.hir_life.specs.Declarations.{declared_environment}
 use Rattle.hir_lower.specs.declared.config.LoweringConfig.{LoweringConfig}
 use Rattle.hir_methods.specs.Untyped.{unless_disabled}
@@ -33,10 +35,6 @@ use Rattle.hir_traits.specs.TraitMethods.{trait_method_errors, trait_method_form
 
 -- ---- what is told of the trait itself
 
--- that it declares more lifetimes than a definition may have
-abbrev pub trait_limit_errors : LifetimeEnv → List LoweringError
-trait_limit_errors declared = if nat_lt most (length declared.nodes) then plain_error rule.TooManyLifetimes ∷ [] else []
-
 -- its name, and the names of its lifetimes
 abbrev pub trait_name_errors : Trait → List LoweringError
 trait_name_errors item = name_errors item.name ++ lifetime_errors item.lifetimes
@@ -48,32 +46,21 @@ own_trait_errors backend support start item =
     notes_errors backend start item.docs item.attrs
     ++ trait_name_errors item
     ++ map fault_error (trait_faults support item.is_send item.is_sync)
-    ++ unless_disabled (marks_of backend item.attrs start) (trait_limit_errors item.lifetimes)
+    ++ unless_disabled (marks_of backend item.attrs start) (limit_errors item.lifetimes)
 
 -- ---- what is told, each at its place
-
--- errors at an item of the module of that path, and at a method of it
-abbrev pub item_reports : List (List ℕ) → List ℕ → List LoweringError → List LoweringReport
-item_reports path item errors = map (told_at (at_place path item None)) errors
-
-abbrev pub subitem_reports : List (List ℕ) → List ℕ → List ℕ → List LoweringError → List LoweringReport
-subitem_reports path item method errors = map (told_at (at_place path item (Some method))) errors
 
 -- of the methods of the trait there, which has that name and that set of marks, in order
 abbrev pub trait_methods_reports : Backend → BackendAttrSupport → LoweringConfig → Catalog → Naming → ItemPlace → Attrs → List (List ℕ) → List ℕ → List TraitMethod → List LoweringReport
 trait_methods_reports backend support config catalog names place attrs path item methods =
-    flat_map (λ method. subitem_reports path item method.name (trait_method_errors backend support config catalog names place attrs method)) methods
-
--- a disabled trait has no methods
-abbrev pub methods_unless_disabled : Attrs → List TraitMethod → List TraitMethod
-methods_unless_disabled attrs methods = if attrs.disable then [] else methods
+    flat_map (λ method. at_method_of path item method.name (trait_method_errors backend support config catalog names place attrs method)) methods
 
 -- of a trait there, in the module of that path, whose marks start from these: what is told of it itself comes first, and then what is of each method
 abbrev pub trait_reports : Backend → BackendAttrSupport → LoweringConfig → Catalog → Naming → ItemPlace → Attrs → List (List ℕ) → Trait → List LoweringReport
 trait_reports backend support config catalog names place start path item =
-    item_reports path item.name (own_trait_errors backend support start item)
+    at_item_itself path item.name (own_trait_errors backend support start item)
     ++ trait_methods_reports backend support config catalog names place (marks_of backend item.attrs start) path item.name
-    (methods_unless_disabled (marks_of backend item.attrs start) item.methods)
+    (where_enabled (marks_of backend item.attrs start) item.methods)
 
 -- ---- what is made
 
@@ -101,15 +88,8 @@ trait_with backend attrs item methods =
 -- one with these marks
 abbrev pub marked_trait_form : Backend → Catalog → Naming → ItemPlace → Attrs → Trait → Option TraitDef
 marked_trait_form backend catalog names place attrs item =
-    option_map (trait_with backend attrs item) (trait_methods_form backend catalog names place attrs (methods_unless_disabled attrs item.methods))
+    option_map (trait_with backend attrs item) (trait_methods_form backend catalog names place attrs (where_enabled attrs item.methods))
 
 -- what it is lowered to
 abbrev pub trait_form : Backend → Catalog → Naming → ItemPlace → Attrs → Trait → Option TraitDef
 trait_form backend catalog names place start item = marked_trait_form backend catalog names place (marks_of backend item.attrs start) item
-
--- ---- the answer
-
--- what there is where nothing is reported
-abbrev pub if_unreported : {A : Type 0} → List LoweringReport → Option A → Option A
-if_unreported [] form = form
-if_unreported (r ∷ rs) form = None

@@ -1,4 +1,3 @@
 -- What the code keeps on its way.
 pub mod Parts
 pub mod Numbering
-pub mod Walk

@@ -8,12 +8,11 @@ ghost use Rattle.hir_reports.specs.Store.{Held, Keeps, added};
 ghost use Rattle.hir_traits.specs.TraitMethods.{unmarked_param, param_name_errors, trait_method_head, trait_method_head_errors};
 ghost use Rattle.hir_traits.specs.inside.Parts.{method_headed, named_as};
 
-use crate::choosing::{keep, paired};
 use bridge_decl::{IdentBuf, Items, LifetimeEnv, NoMemory, Param, TraitMethod};
 use hir_backends::AttributeValidator;
 use hir_docs::Docs;
 use hir_heads::{lower_ident, tell_lifetimes};
-use hir_methods::read_docs;
+use hir_methods::{keep, paired, read_docs};
 use hir_reports::ErrorStore;
 use std::alloc::Global;
 

@@ -10,12 +10,12 @@ ghost use Rattle.hir_traits.specs.TraitStages.{trait_stage_errors, trait_stage_f
 ghost use Rattle.hir_traits.specs.TraitTypes.{trait_judged_errors, trait_output_errors, trait_output_form, trait_param_errors, trait_params_form, trait_receiver_form, trait_types_form, trait_types_with};
 ghost use Rattle.hir_traits.specs.inside.Numbering.{trait_stage_of};
 
-use crate::choosing::{beside, keep};
-use crate::lowering::Lowering;
 use bridge_decl::{Items, NoMemory};
 use bridge_rules::Catalog;
 use hir_form::{judge_callback_param, judge_callback_return};
 use hir_ids::TraitId;
+use hir_items::Lowering;
+use hir_methods::{beside, keep};
 use hir_number::{NumberFault, NumberedTraitMethod, NumberedType, TraitTarget};
 use hir_reports::ErrorStore;
 use hir_signatures::tell_number_fault;

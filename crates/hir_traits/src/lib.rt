@@ -42,16 +42,13 @@
 #![tactic(auto)]
 
 mod callbacks;
-mod choosing;
 mod heads;
 mod judging;
 mod laws;
-mod lowering;
 mod methods;
 mod own;
 mod traits;
 mod types;
 
 pub use laws::what_is_fine_is_made;
-pub use lowering::Lowering;
 pub use traits::lower_trait;

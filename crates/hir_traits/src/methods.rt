@@ -4,26 +4,26 @@ ghost use Rattle.std.specs.Prelude.{◌≡◌, ◌++◌, ◌<◌, [], All, IfOk,
 ghost use Rattle.bridge_decl.specs.Lifetimes.{IsSoundEnvironment};
 ghost use Rattle.bridge_decl.specs.declared.traits.TraitMethod.{TraitMethod};
 ghost use Rattle.hir_attrs.specs.Reading.{marks_of};
+ghost use Rattle.hir_items.specs.Placing.{where_enabled};
+ghost use Rattle.hir_items.specs.inside.Reported.{GivenUnlessReported};
 ghost use Rattle.hir_methods.specs.Untyped.{unless_disabled};
 ghost use Rattle.hir_methods.specs.inside.Parts.{GivenUnlessTold};
 ghost use Rattle.hir_modules.specs.Holding.{HoldsStill};
 ghost use Rattle.hir_number.specs.Naming.{IsNaming, Naming};
 ghost use Rattle.hir_reports.specs.Store.{Held, Keeps, added, at_subitem};
 ghost use Rattle.hir_traits.specs.TraitMethods.{enabled_trait_method_errors, enabled_trait_method_form, trait_method_errors, trait_method_form};
-ghost use Rattle.hir_traits.specs.Traits.{methods_unless_disabled, trait_methods_form, trait_methods_reports};
+ghost use Rattle.hir_traits.specs.Traits.{trait_methods_form, trait_methods_reports};
 ghost use Rattle.hir_traits.specs.inside.Parts.{with_next_method};
-ghost use Rattle.hir_traits.specs.inside.Walk.{GivenIfUnreported};
 
 use crate::callbacks::join_whole;
-use crate::choosing::{beside, keep};
 use crate::heads::lower_head;
-use crate::lowering::Lowering;
 use crate::types::lower_types;
 use bridge_ast::ItemPlace;
 use bridge_decl::{Items, NoMemory, TraitMethod};
 use hir_attrs::Attrs;
 use hir_backends::AttributeValidator;
-use hir_methods::read_marks;
+use hir_items::Lowering;
+use hir_methods::{beside, keep, read_marks};
 use hir_reports::ErrorStore;
 use hir_types::Callback;
 
@@ -167,7 +167,7 @@ fn lower_each<'tree, V: AttributeValidator>(
         lowering.now.catalog.now names place parent.now errors.old.place.«module»
         errors.old.place.item methods.now) }
     ensures made { (names : Naming) → IsNaming lowering.now.env.now place.«module» names
-        → IfOk result (GivenIfUnreported (trait_methods_reports
+        → IfOk result (GivenUnlessReported (trait_methods_reports
         (V.meaning lowering.now.validator.now) lowering.now.support.now lowering.now.config
         lowering.now.catalog.now names place parent.now errors.old.place.«module»
         errors.old.place.item methods.now) (trait_methods_form
@@ -197,14 +197,14 @@ pub fn lower_methods<'tree, V: AttributeValidator>(
         → OnOk result (errors.new.reports ≡ errors.old.reports ++ trait_methods_reports
         (V.meaning lowering.now.validator.now) lowering.now.support.now lowering.now.config
         lowering.now.catalog.now names place parent.now errors.old.place.«module»
-        errors.old.place.item (methods_unless_disabled parent.now methods.now)) }
+        errors.old.place.item (where_enabled parent.now methods.now)) }
     ensures made { (names : Naming) → IsNaming lowering.now.env.now place.«module» names
-        → IfOk result (GivenIfUnreported (trait_methods_reports
+        → IfOk result (GivenUnlessReported (trait_methods_reports
         (V.meaning lowering.now.validator.now) lowering.now.support.now lowering.now.config
         lowering.now.catalog.now names place parent.now errors.old.place.«module»
-        errors.old.place.item (methods_unless_disabled parent.now methods.now))
+        errors.old.place.item (where_enabled parent.now methods.now))
         (trait_methods_form (V.meaning lowering.now.validator.now) lowering.now.catalog.now
-        names place parent.now (methods_unless_disabled parent.now methods.now))) }
+        names place parent.now (where_enabled parent.now methods.now))) }
     ensures kept { (earlier : Held) → HoldsStill earlier errors.old
         → HoldsStill earlier errors.new }
 {

@@ -7,20 +7,21 @@ ghost use Rattle.bridge_grid.specs.Telling.{fault_error};
 ghost use Rattle.hir_elide.specs.Numbering.{most};
 ghost use Rattle.hir_heads.specs.Heads.{notes_form};
 ghost use Rattle.hir_heads.specs.Told.{MadeUnlessTold};
+ghost use Rattle.hir_items.specs.Opaques.{limit_errors};
 ghost use Rattle.hir_methods.specs.Untyped.{unless_disabled};
 ghost use Rattle.hir_reports.specs.Store.{Held, Keeps, added};
-ghost use Rattle.hir_traits.specs.Traits.{own_trait_errors, trait_limit_errors, trait_name_errors};
+ghost use Rattle.hir_traits.specs.Traits.{own_trait_errors, trait_name_errors};
 ghost use Rattle.hir_traits.specs.inside.Parts.{both_names, declared_names};
 
-use crate::choosing::paired;
-use crate::lowering::Lowering;
 use bridge_decl::{IdentBuf, LifetimeEnv as Declared, NoMemory, Trait};
 use bridge_grid::{tell, test_trait};
 use hir_attrs::Attrs;
 use hir_backends::{AttributeValidator, BackendAttrSupport};
 use hir_elide::MOST_LIFETIMES;
 use hir_heads::{Notes, lower_ident, lower_lifetimes, lower_notes};
+use hir_items::Lowering;
 use hir_life::LifetimeEnv;
+use hir_methods::paired;
 use hir_reports::{ErrorStore, LoweringError, Rule};
 use std::alloc::Global;
 
@@ -99,7 +100,7 @@ fn tell_limit(
     errors: &mut ErrorStore<'_>,
 ) -> Result<(), NoMemory>
     ensures told { OnOk result
-        (errors.new ≡ added errors.old (trait_limit_errors declared.now)) }
+        (errors.new ≡ added errors.old (limit_errors declared.now)) }
     ensures kept { (earlier : Held) → Keeps earlier errors.old → Keeps earlier errors.new }
 {
     if are_too_many(declared) {
@@ -116,7 +117,7 @@ fn tell_enabled(
     errors: &mut ErrorStore<'_>,
 ) -> Result<(), NoMemory>
     ensures told { OnOk result (errors.new ≡ added errors.old
-        (unless_disabled attrs.now (trait_limit_errors declared.now))) }
+        (unless_disabled attrs.now (limit_errors declared.now))) }
     ensures kept { (earlier : Held) → Keeps earlier errors.old → Keeps earlier errors.new }
 {
     if attrs.disable {

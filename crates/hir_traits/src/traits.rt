@@ -3,15 +3,14 @@
 ghost use Rattle.std.specs.Prelude.{◌≡◌, ◌++◌, ◌<◌, IfOk, OnOk, length};
 ghost use Rattle.bridge_ast.specs.Sound.{HasSoundLifetimes};
 ghost use Rattle.bridge_decl.specs.declared.modules.Item.TheVariants as declared;
+ghost use Rattle.hir_items.specs.Placing.{unless_reported};
+ghost use Rattle.hir_items.specs.inside.Reported.{GivenUnlessReported};
 ghost use Rattle.hir_modules.specs.Holding.{HoldsStill};
 ghost use Rattle.hir_number.specs.Naming.{IsNaming, Naming};
 ghost use Rattle.hir_reports.specs.Store.{Held};
-ghost use Rattle.hir_traits.specs.Traits.{trait_form, trait_reports, if_unreported};
+ghost use Rattle.hir_traits.specs.Traits.{trait_form, trait_reports};
 ghost use Rattle.hir_traits.specs.inside.Parts.{assembled};
-ghost use Rattle.hir_traits.specs.inside.Walk.{GivenIfUnreported};
 
-use crate::choosing::{kept_if, paired};
-use crate::lowering::Lowering;
 use crate::methods::lower_methods;
 use crate::own::{OwnHead, lower_own};
 use bridge_ast::ItemPlace;
@@ -21,6 +20,8 @@ use hir_backends::AttributeValidator;
 use hir_definitions::{TraitDef, TypingUseInfo};
 use hir_heads::Notes;
 use hir_ids::Ident;
+use hir_items::Lowering;
+use hir_methods::{kept_if, paired};
 use hir_reports::ErrorStore;
 use hir_types::Callback;
 use std::alloc::Global;
@@ -59,7 +60,7 @@ fn lower_whole<'tree, V: AttributeValidator>(
         (V.meaning lowering.now.validator.now) lowering.now.support.now lowering.now.config
         lowering.now.catalog.now names place start errors.old.place.«module» item.now) }
     ensures made { (names : Naming) → IsNaming lowering.now.env.now place.«module» names
-        → IfOk result (GivenIfUnreported (trait_reports
+        → IfOk result (GivenUnlessReported (trait_reports
         (V.meaning lowering.now.validator.now) lowering.now.support.now lowering.now.config
         lowering.now.catalog.now names place start errors.old.place.«module» item.now)
         (trait_form (V.meaning lowering.now.validator.now) lowering.now.catalog.now names
@@ -92,7 +93,7 @@ pub fn lower_trait<'tree, V: AttributeValidator>(
         (V.meaning lowering.now.validator.now) lowering.now.support.now lowering.now.config
         lowering.now.catalog.now names place start errors.old.place.«module» item.now) }
     ensures made { (names : Naming) → IsNaming lowering.now.env.now place.«module» names
-        → IfOk result (λ made. made ≡ if_unreported (trait_reports
+        → IfOk result (λ made. made ≡ unless_reported (trait_reports
         (V.meaning lowering.now.validator.now) lowering.now.support.now lowering.now.config
         lowering.now.catalog.now names place start errors.old.place.«module» item.now)
         (trait_form (V.meaning lowering.now.validator.now) lowering.now.catalog.now names

@@ -11,9 +11,9 @@ ghost use Rattle.hir_signatures.specs.Errors.{breach_error};
 ghost use Rattle.hir_traits.specs.TraitTypes.{trait_method_type_errors, trait_method_types};
 
 use crate::judging::{TraitMethodTypes, judge_numbered};
-use crate::lowering::Lowering;
 use bridge_ast::{Env, ItemPlace};
 use bridge_decl::{NoMemory, TraitMethod};
+use hir_items::Lowering;
 use hir_number::{Breach, number_trait_method, trait_method_breaches};
 use hir_reports::ErrorStore;
 use hir_signatures::tell_breaches;

@@ -10,7 +10,7 @@ use Rattle.hir_definitions.specs.declared.definitions.EnumVariant.{EnumVariant}
 use Rattle.hir_definitions.specs.declared.methods.Method.{Method}
 use Rattle.hir_fields.specs.Variants.{variants_form}
 use Rattle.hir_heads.specs.declared.notes.Notes.{Notes}
-use Rattle.hir_methods.specs.inside.Parts.{paired}
+use Rattle.hir_methods.specs.Choosing.{paired}
 use Rattle.hir_items.specs.declared.enums.EnumOwn.{EnumOwn}
 
 -- a name with variants, where there are both

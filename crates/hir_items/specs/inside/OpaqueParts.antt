@@ -6,7 +6,7 @@ use Rattle.hir_definitions.specs.Usage.{unused}
 use Rattle.hir_definitions.specs.declared.definitions.OpaqueDef.{OpaqueDef}
 use Rattle.hir_definitions.specs.declared.methods.Method.{Method}
 use Rattle.hir_heads.specs.declared.notes.Notes.{Notes}
-use Rattle.hir_methods.specs.inside.Parts.{paired}
+use Rattle.hir_methods.specs.Choosing.{paired}
 use Rattle.hir_items.specs.declared.heads.Title.{Title}
 use Rattle.hir_items.specs.declared.opaques.OpaqueOwn.{OpaqueOwn}
 use Rattle.hir_items.specs.inside.Titles.{title_form}

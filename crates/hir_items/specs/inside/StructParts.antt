@@ -11,7 +11,7 @@ use Rattle.hir_fields.specs.Fields.{fields_form, out_fields_form}
 use Rattle.hir_heads.specs.declared.notes.Notes.{Notes}
 use Rattle.hir_ids.specs.declared.owners.Borrow.{Borrow}
 use Rattle.hir_ids.specs.declared.owners.MaybeOwn.{MaybeOwn}
-use Rattle.hir_methods.specs.inside.Parts.{paired}
+use Rattle.hir_methods.specs.Choosing.{paired}
 use Rattle.hir_types.specs.declared.callbacks.NoCallback.{NoCallback}
 use Rattle.hir_types.specs.declared.paths.NoTraitPath.{NoTraitPath}
 use Rattle.hir_types.specs.declared.paths.ReturnableStructPath.{ReturnableStructPath}

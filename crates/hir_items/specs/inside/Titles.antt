@@ -3,7 +3,7 @@ use Rattle.std.specs.Prelude.{ℕ, List, [], ◌∷◌, Bool, Option, option_map
 use Rattle.bridge_decl.specs.declared.lifetimes.LifetimeEnv.{LifetimeEnv}
 use Rattle.hir_life.specs.Declarations.{declared_environment}
 use Rattle.hir_life.specs.Environment.{Environment}
-use Rattle.hir_methods.specs.inside.Parts.{paired}
+use Rattle.hir_methods.specs.Choosing.{paired}
 use Rattle.hir_reports.specs.Texts.{plain_error}
 use Rattle.hir_reports.specs.declared.report.LoweringError.{LoweringError}
 use Rattle.hir_reports.specs.declared.rule.Rule.{Rule}

@@ -10,7 +10,7 @@ use Rattle.hir_methods.specs.Untyped.{each_untyped_errors, heading_errors, headi
 use Rattle.hir_methods.specs.declared.headings.Heading.{Heading}
 use Rattle.hir_methods.specs.declared.params.UntypedParam.{UntypedParam}
 use Rattle.hir_methods.specs.declared.whole.Untyped.{Untyped}
-use Rattle.hir_methods.specs.inside.Parts.{paired}
+use Rattle.hir_methods.specs.Choosing.{paired}
 
 -- where there are its heading and its parameters
 abbrev pub gathered : Option Heading → Option Attrs → Option (List UntypedParam) → Option Untyped

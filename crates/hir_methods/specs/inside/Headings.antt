@@ -4,7 +4,7 @@ use Rattle.hir_attrs.specs.declared.attrs.Attrs.{Attrs}
 use Rattle.hir_docs.specs.declared.docs.Docs.{Docs}
 use Rattle.hir_methods.specs.declared.headings.Heading.{Heading}
 use Rattle.hir_methods.specs.declared.params.UntypedParam.{UntypedParam}
-use Rattle.hir_methods.specs.inside.Parts.{paired}
+use Rattle.hir_methods.specs.Choosing.{paired}
 
 -- a heading of these documents
 abbrev pub headed : Docs → Option (List ℕ) → Option (List ℕ) → Option Heading

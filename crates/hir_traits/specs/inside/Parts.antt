@@ -8,7 +8,7 @@ use Rattle.hir_docs.specs.declared.docs.Docs.{Docs}
 use Rattle.hir_heads.specs.declared.notes.Notes.{Notes}
 use Rattle.hir_life.specs.Declarations.{declared_environment}
 use Rattle.hir_life.specs.Environment.{Environment}
-use Rattle.hir_methods.specs.inside.Parts.{kept_with, paired}
+use Rattle.hir_methods.specs.Choosing.{kept_with, paired}
 use Rattle.hir_types.specs.declared.callbacks.Callback.{Callback}
 use Rattle.hir_types.specs.declared.callbacks.CallbackParam.{CallbackParam}
 use Rattle.hir_traits.specs.declared.callbacks.CallbackFrame.{CallbackFrame}
