@@ -57,6 +57,17 @@ module _ (census : Census) where
       → DefinitionFits census (parts_of_type methods special before) → DefinitionFits census (parts_of_type methods special after)
   used_whole methods special before after h all = last_changed (map method_part methods) (free (special_mentions special)) (free (usage_mentions before)) (free (usage_mentions after)) h all
 
+  -- the part before the last is another
+  special_changed : (first : List Part) (before after usage : Part) → PartFits census after → All (PartFits census) (first ++ before ∷ usage ∷ []) → All (PartFits census) (first ++ after ∷ usage ∷ [])
+  special_changed [] before after usage h all = All-cons (PartFits census) after (usage ∷ []) h (All-tail (PartFits census) before (usage ∷ []) all)
+  special_changed (p ∷ first) before after usage h all =
+      All-cons (PartFits census) p (first ++ after ∷ usage ∷ []) (All-head (PartFits census) p (first ++ before ∷ usage ∷ []) all)
+      (special_changed first before after usage h (All-tail (PartFits census) p (first ++ before ∷ usage ∷ []) all))
+
+  pub special_whole : (methods : List Method) (before after : SpecialMethodPresence) (usage : TypingUseInfo) → PartFits census (free (special_mentions after))
+      → DefinitionFits census (parts_of_type methods before usage) → DefinitionFits census (parts_of_type methods after usage)
+  special_whole methods before after usage h all = special_changed (map method_part methods) (free (special_mentions before)) (free (special_mentions after)) (free (usage_mentions usage)) h all
+
   pub struct_whole : {P C O I S T : Type 0} (of_type : HirType P C O I S T → List Mentioned) (def : StructDef P C O I S T) → All (Fits census (Some def.lifetimes.count)) (fields_mentions of_type def.fields)
       → DefinitionFits census (parts_of_type def.methods def.special_method_presence def.usage) → DefinitionFits census (parts_of_struct of_type def)
   struct_whole of_type def fields all = All-cons (PartFits census) (fields_part of_type def) (parts_of_type def.methods def.special_method_presence def.usage) fields all

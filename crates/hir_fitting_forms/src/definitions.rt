@@ -32,7 +32,7 @@ ghost use Rattle.hir_items.specs.Opaques.{opaque_item_form};
 ghost use Rattle.hir_items.specs.Setting.{Setting};
 ghost use Rattle.hir_items.specs.Structs.{out_struct_item_form, struct_item_form};
 ghost use Rattle.hir_mentions.specs.Callbacks.{field_mentions, output_mentions};
-ghost use Rattle.hir_mentions.specs.Definitions.{fields_mentions, trait_mentions, usage_mentions};
+ghost use Rattle.hir_mentions.specs.Definitions.{fields_mentions, special_mentions, trait_mentions, usage_mentions};
 ghost use Rattle.hir_nesting.specs.Faults.{AllNestWell};
 ghost use Rattle.hir_traits.specs.Traits.{trait_form};
 ghost use Rattle.hir_types.specs.declared.callbacks.NoCallback.{NoCallback};
@@ -46,8 +46,8 @@ ghost use Rattle.hir_fitting_forms.specs.DeclaredDefinitions.{EachFits, HaveDecl
 ghost use Rattle.hir_fitting_forms.specs.Naming.{NamesFit};
 
 /// A definition fits where its parts do. `types` says so of what each type has where nothing is
-/// known yet of how it is used, and `used` that it keeps fitting once more is known; then a struct
-/// of either kind fits where its fields do too, and a trait where its methods do.
+/// known yet of its methods and of how it is used, and `used` and `special` that it keeps fitting
+/// once more is known of either; then a struct of either kind fits where its fields do too, and a trait where its methods do.
 pub fn definitions_fit_where_parts_do()
     ensures types { (census : Census) (methods : List Method)
         → All (λ m. PartFits census (method_part m)) methods
@@ -56,6 +56,11 @@ pub fn definitions_fit_where_parts_do()
         (before after : TypingUseInfo) → PartFits census (free (usage_mentions after))
         → DefinitionFits census (parts_of_type methods special before)
         → DefinitionFits census (parts_of_type methods special after) }
+    ensures special { (census : Census) (methods : List Method)
+        (before after : SpecialMethodPresence) (usage : TypingUseInfo)
+        → PartFits census (free (special_mentions after))
+        → DefinitionFits census (parts_of_type methods before usage)
+        → DefinitionFits census (parts_of_type methods after usage) }
     ensures structs { (census : Census)
         (def : StructDef Everywhere NoCallback Loan ℕ StructPath NoTraitPath)
         → All (Fits census (Some def.lifetimes.count)) (fields_mentions field_mentions def.fields)

@@ -53,7 +53,8 @@
 //! Each definition keeps the results in which it is used, as `Page` keeps that of `next`. It keeps
 //! no environment beside them, so their lifetimes may be any. They name what is there where the
 //! methods do that return them, [`uses_fit_where_types_do`], and so does all that is noted of uses,
-//! [`noted_uses_fit`].
+//! [`noted_uses_fit`], and what is kept of methods that are more than methods,
+//! [`special_methods_fit_where_methods_do`].
 //!
 //! # The whole
 //!
@@ -82,5 +83,5 @@ pub use definitions::{
     items_are_lowered_to_what_fits,
 };
 pub use forms::{signatures_stand_for_what_fits, types_stand_for_what_fits};
-pub use uses::{noted_uses_fit, uses_fit_where_types_do};
+pub use uses::{noted_uses_fit, special_methods_fit_where_methods_do, uses_fit_where_types_do};
 pub use wholes::{methods_stand_for_what_fits, trait_methods_stand_for_what_fits};
