@@ -47,7 +47,8 @@ ghost use Rattle.hir_fitting_forms.specs.Naming.{NamesFit};
 
 /// A definition fits where its parts do. `types` says so of what each type has where nothing is
 /// known yet of its methods and of how it is used, and `used` and `special` that it keeps fitting
-/// once more is known of either; then a struct of either kind fits where its fields do too, and a trait where its methods do.
+/// once more is known of either; then a struct of either kind fits where its fields do too, and a
+/// trait where its methods do.
 pub fn definitions_fit_where_parts_do()
     ensures types { (census : Census) (methods : List Method)
         → All (λ m. PartFits census (method_part m)) methods
