@@ -1,0 +1,2 @@
+-- What the code keeps on its way.
+pub mod Walking
