@@ -1,1 +1,3 @@
 mod WalkLemmas
+mod AllLemmas
+mod FineLemmas

@@ -1,9 +1,10 @@
 -- What is told of the items at places, and what they are lowered to.
-use Rattle.std.specs.Prelude.{List, Option, option_map, option_and_then, slice_get}
+use Rattle.std.specs.Prelude.{List, Option, map, option_map, option_and_then, slice_get}
 use Rattle.std.specs.List.{filter_map, flat_map}
 use Rattle.bridge_ast.specs.declared.place.ItemPlace.{ItemPlace}
 use Rattle.bridge_decl.specs.declared.modules.Item.{Item}
 use Rattle.bridge_decl.specs.declared.modules.Module.{Module}
+use Rattle.hir_form.specs.ParamForms.{all_given}
 use Rattle.hir_items.specs.Placing.{unless_reported}
 use Rattle.hir_mentions.specs.Mentions.{where_any}
 use Rattle.hir_modules.specs.ModuleMarks.{module_marks}
@@ -37,6 +38,10 @@ form_of it made place found =
 
 abbrev pub form_at : {D : Type 0} → Interface → ItemMaking D → ItemPlace → Option D
 form_at it made place = option_and_then (form_of it made place) (found_at it.modules place)
+
+-- of all places, in order, where something is made of each: so none is left out
+abbrev pub each_form : {D : Type 0} → Interface → ItemMaking D → List ItemPlace → Option (List D)
+each_form it made places = all_given (map (form_at it made) places)
 
 -- the definitions of the items of which nothing is told, in order
 abbrev pub made_at : {D : Type 0} → Interface → ItemTelling → ItemMaking D → ItemPlace → Option D

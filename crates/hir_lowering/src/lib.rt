@@ -29,9 +29,11 @@
 
 mod items;
 mod kinds;
+mod laws;
 mod nesting;
 mod walk;
 
 pub use kinds::{DefinitionKind, Enums, Functions, Opaques, OutStructs, Structs, Traits};
+pub use laws::what_is_fine_is_all_made;
 pub use nesting::tell_nesting;
-pub use walk::lower_declarations;
+pub use walk::{lower_declarations, lower_in_order};

@@ -25,7 +25,7 @@ fn error_of(alloc: Global, fault: &NestingFault) -> LoweringError
     }
 }
 
-/// ItemTelling the fault, where there is one, at the store's place.
+/// Telling the fault, where there is one, at the store's place.
 fn tell_fault(
     alloc: Global,
     fault: &Option<NestingFault>,
@@ -40,7 +40,7 @@ fn tell_fault(
     }
 }
 
-/// ItemTelling the fault of the struct at a place, where it has one.
+/// Telling the fault of the struct at a place, where it has one.
 fn tell_at<'tree>(
     alloc: Global,
     env: &'tree Env,
@@ -67,7 +67,7 @@ fn tell_at<'tree>(
     tell_fault(alloc, fault, errors)
 }
 
-/// ItemTelling the faults of the structs at these places, in order.
+/// Telling the faults of the structs at these places, in order.
 fn tell_each<'tree>(
     alloc: Global,
     env: &'tree Env,
@@ -85,25 +85,26 @@ fn tell_each<'tree>(
     Ok(())
 }
 
-/// ItemTelling of each struct that it contains itself or nests too deep, where it does: structs first, and
-/// then those that only go out, of which the faults have first so many. `NoMemory` where there is no
-/// memory for the reports.
+/// Telling of each struct that it contains itself or nests too deep, where it does: structs first, and
+/// then those that only go out, of which the faults have first so many as `count`. `NoMemory` where
+/// there is no memory for the reports.
 pub fn tell_nesting<'tree>(
     alloc: Global,
     env: &'tree Env,
     structs: &[ItemPlace],
     out_structs: &[ItemPlace],
+    count: usize,
     faults: &[Option<NestingFault>],
     errors: &mut ErrorStore<'tree>,
 ) -> Result<(), NoMemory>
     requires structs { structs.now ≡ places_of env.now kind.Struct }
     requires out_structs { out_structs.now ≡ places_of env.now kind.OutStruct }
-    requires all { length out_structs.now ≤ length faults.now }
+    requires all { count ≤ length faults.now }
     ensures told { OnOk result (errors.new.reports ≡ errors.old.reports
-        ++ nesting_reports env.now (length out_structs.now) faults.now) }
+        ++ nesting_reports env.now count faults.now) }
     ensures kept { HoldsStill errors.old errors.new }
 {
-    let (first, others) = faults.split_at(out_structs.len());
+    let (first, others) = faults.split_at(count);
     tell_each(alloc, env, structs, others, errors)?;
     tell_each(alloc, env, out_structs, first, errors)
 }

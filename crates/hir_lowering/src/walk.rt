@@ -2,6 +2,7 @@
 
 ghost use Rattle.std.specs.Prelude.{◌≡◌, ◌++◌, ℕ, IfOk, OnOk, map};
 ghost use Rattle.bridge_ast.specs.Sound.{AreSound};
+ghost use Rattle.bridge_places.specs.Entries.{IsCatalog};
 ghost use Rattle.bridge_places.specs.Places.{of_kind, places_of};
 ghost use Rattle.bridge_places.specs.declared.kinds.Kind.{Kind};
 ghost use Rattle.hir_lowering.specs.Interface.{AreNamed, Interface};
@@ -89,9 +90,38 @@ fn lower_items<'tree, V: AttributeValidator>(
     Ok(defs)
 }
 
-/// All declarations: what is wrong is told, of modules first and then of the items by their kinds,
-/// each at its place, and of the items of which nothing is told the definitions are made. Nothing
-/// ends the walk but want of memory, which is `NoMemory`.
+/// All declarations, where that is the order of their items: what is wrong is told, of modules first
+/// and then of the items by their kinds, each at its place, and of the items of which nothing is told
+/// the definitions are made. Nothing ends the walk but want of memory, which is `NoMemory`.
+pub fn lower_in_order<'tree, V: AttributeValidator>(
+    alloc: Global,
+    env: &'tree Env,
+    order: &ItemOrder,
+    config: LoweringConfig,
+    validator: &V,
+    errors: &mut ErrorStore<'tree>,
+) -> Result<LoweredDefinitions, NoMemory>
+    requires sound { AreSound env.now }
+    requires catalog { IsCatalog env.now order.now.catalog }
+    requires places { (k : Kind) → of_kind k order.now.places ≡ places_of env.now k }
+    ensures walked { (names : ℕ → Naming) → AreNamed env.now names → Walks env.now
+        (V.meaning validator.now) config names errors.old errors.new result }
+    ensures kept { HoldsStill errors.old errors.new }
+{
+    let marks = lower_modules(alloc, env, validator, errors)?;
+    let support = validator.attrs_supported();
+    let lent = Lowering {
+        alloc,
+        env,
+        validator,
+        support: &support,
+        config,
+        catalog: &order.catalog,
+    };
+    lower_items(env, &lent, marks.as_slice(), &order.places, errors)
+}
+
+/// All declarations, by an order of their items that is made here.
 pub fn lower_declarations<'tree, V: AttributeValidator>(
     alloc: Global,
     env: &'tree Env,
@@ -103,16 +133,6 @@ pub fn lower_declarations<'tree, V: AttributeValidator>(
         (V.meaning validator.now) config names errors.old errors.new result }
     ensures kept { HoldsStill errors.old errors.new }
 {
-    let marks = lower_modules(alloc, env, validator, errors)?;
     let order = ItemOrder::of(alloc, env.modules())?;
-    let support = validator.attrs_supported();
-    let lent = Lowering {
-        alloc,
-        env,
-        validator,
-        support: &support,
-        config,
-        catalog: &order.catalog,
-    };
-    lower_items(env, &lent, marks.as_slice(), &order.places, errors)
+    lower_in_order(alloc, env, &order, config, validator, errors)
 }
