@@ -1,0 +1,3 @@
+mod TellingLemmas
+mod NestingLemmas
+mod PlacingLemmas

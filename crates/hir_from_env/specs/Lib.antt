@@ -1,0 +1,4 @@
+pub mod Refusals
+pub mod Acceptance
+pub mod Placing
+pub mod inside

@@ -1,0 +1,31 @@
+//! All declarations of an environment: the definitions of an interface, or all that is wrong.
+//!
+//! One example runs through this crate:
+//!
+//! ```text
+//! mod crate::data  { struct Line { start: u32 }  #[diplomat::out] struct Cut { line: Line } }
+//! mod crate::ui    { #[diplomat::opaque] struct Page(..);  impl Page { fn longest(&self, lines: &[Line]) -> Cut; } }
+//! ```
+//!
+//! Nothing is wrong here, so [`lower_or_refuse`] answers with the definitions of all items, kind by kind and in order, and none is left
+//! out: an out-struct `Cut`, a struct `Line` and an opaque `Page`. Where something is, it answers with all of it, in two steps of which
+//! the first that tells anything is the last:
+//!
+//! | what is looked at | what may be told |
+//! |---|---|
+//! | modules, then items kind by kind | `Kex names nothing`, at `ui::Page::print` |
+//! | how structs nest | `Line` contains itself, at `data::Line` |
+//!
+//! [`parts_of`] puts beside each definition the path of the module that its item stands in, here `crate::data` beside `Line` and `Cut` and
+//! `crate::ui` beside `Page`: these are the parts of a context.
+//!
+//! As in the crate `diplomat_core`, module `hir::type_context`, which stops at the first of some faults, and has no rule on nesting.
+#![tactic(auto)]
+
+mod fault;
+mod placing;
+mod refusing;
+
+pub use fault::LowerFault;
+pub use placing::parts_of;
+pub use refusing::lower_or_refuse;
