@@ -1,3 +1,7 @@
 mod TellingLemmas
 mod NestingLemmas
 mod PlacingLemmas
+mod MadeLemmas
+mod ItemLemmas
+mod UseLemmas
+mod ContextLemmas

@@ -6,7 +6,7 @@ use Rattle.std.proofs.lemmas.List.{length-append, reverse-reverse}
 use Rattle.bridge_ast.specs.declared.place.ItemPlace.{ItemPlace}
 use Rattle.bridge_decl.specs.declared.modules.Module.{Module}
 use Rattle.hir_context.specs.declared.parts.Placed.{Placed}
-use Rattle.hir_from_env.specs.Placing.{ArePlaced, path_of_number}
+use Rattle.hir_from_env.specs.Placing.{StandAtPlaces, path_of_number}
 
 -- one more, of which the path is that of its number
 pub module_more :
@@ -35,7 +35,7 @@ pub all_placed :
     {D : Type 0} (modules : List Module) (places : List ItemPlace) (all left : List D) (rest made final : List (Placed D))
     → all ≡ left ++ map (λ q. q.def) rest → left ≡ [] → made ≡ reverse rest
     → map (λ q. q.«module») rest ≡ map (λ n. path_of_number modules places n.0) (enumerate_from (length left) (map (λ q. q.def) rest))
-    → final ≡ reverse made → ArePlaced modules places all final
+    → final ≡ reverse made → StandAtPlaces modules places all final
 all_placed {D} modules places all left rest made final is none so ways end =
     let whole : final ≡ rest = end ∙ ap reverse so ∙ reverse-reverse rest in
     let same : all ≡ map (λ q. q.def) rest = is ∙ ap (λ xs. xs ++ map (λ q. q.def) rest) none in
@@ -50,5 +50,5 @@ all_placed {D} modules places all left rest made final is none so ways end =
 -- the places may be written otherwise
 pub at_places :
     {D : Type 0} (modules : List Module) (places others : List ItemPlace) (list : List D) (placed : List (Placed D))
-    → places ≡ others → ArePlaced modules places list placed → ArePlaced modules others list placed
-at_places modules places others list placed same are = subst (λ ps. ArePlaced modules ps list placed) same are
+    → places ≡ others → StandAtPlaces modules places list placed → StandAtPlaces modules others list placed
+at_places modules places others list placed same are = subst (λ ps. StandAtPlaces modules ps list placed) same are

@@ -20,7 +20,7 @@ use Rattle.hir_from_env.specs.Acceptance.{AnswersAll, AreAccepted, HoldsByCatalo
 use Rattle.hir_from_env.specs.Refusals.{IsRefusal, TellsNestingOf, lowered_containment}
 use Rattle.hir_from_env.specs.declared.fault.LowerFault.{LowerFault}
 use Rattle.hir_from_env.specs.declared.fault.LowerFault.TheVariants as fault
-use Rattle.hir_from_env.specs.inside.Telling.{GivesUnlessTold, IsTold, TellsAll, TellsNestingAfter}
+use Rattle.hir_from_env.specs.inside.Telling.{GivesUnlessTold, IsWholeTelling, TellsAll, TellsNestingAfter}
 
 some_there : {A : Type 0} (x : A) (xs : List A) → x ∷ xs ≢ []
 some_there x xs = λ none. cc
@@ -29,7 +29,7 @@ some_there x xs = λ none. cc
 pub whole :
     (modules : List Module) (backend : Backend) (config : LoweringConfig) (names : ℕ → Naming) (old mid : Held) (new : List LoweringReport) (d : LoweredDefinitions)
     → LowersTo modules backend config names old mid d → old.reports ≡ [] → (rs : List LoweringReport) → mid.reports ≡ rs
-    → (rs ≡ [] → TellsNestingAfter modules d rs new) → (rs ≢ [] → new ≡ rs) → HoldsByCatalog modules backend config names (λ it. IsTold it d new)
+    → (rs ≡ [] → TellsNestingAfter modules d rs new) → (rs ≢ [] → new ≡ rs) → HoldsByCatalog modules backend config names (λ it. IsWholeTelling it d new)
 whole modules backend config names old mid new d lowers empty [] is fine others =
     let it = interface_of modules backend config names lowers.catalog in
     let after = fine refl in
@@ -37,7 +37,7 @@ whole modules backend config names old mid new d lowers empty [] is fine others 
     record {
       catalog = lowers.catalog;
       is = lowers.is;
-      holds = IsTold.Structs untold lowers.made (subst (λ rs. TellsNestingOf modules d rs) (sym after.gained) after.tells);
+      holds = IsWholeTelling.Structs untold lowers.made (subst (λ rs. TellsNestingOf modules d rs) (sym after.gained) after.tells);
     }
 whole modules backend config names old mid new d lowers empty (r ∷ rs) is fine others =
     let it = interface_of modules backend config names lowers.catalog in
@@ -46,7 +46,7 @@ whole modules backend config names old mid new d lowers empty (r ∷ rs) is fine
     record {
       catalog = lowers.catalog;
       is = lowers.is;
-      holds = IsTold.Items (subst (λ rs. rs ≢ []) (sym same) (some_there r rs)) (same ∙ all);
+      holds = IsWholeTelling.Items (subst (λ rs. rs ≢ []) (sym same) (some_there r rs)) (same ∙ all);
     }
 
 -- of the items nothing is told
@@ -61,27 +61,27 @@ abbrev pub NestingUntold : List Module → LoweredDefinitions → Type 0
 NestingUntold modules d =
     (it : Interface) → it.modules ≡ modules → AreAllLowered it d → TellsNestingOf modules d [] → AllNestWell (lowered_containment d)
 
-accepted : (it : Interface) (d : LoweredDefinitions) → AllMade → NestingUntold it.modules d → IsTold it d [] → AreAccepted it d
-accepted it d made nested (IsTold.Items some is) = absurd (some refl)
-accepted it d made nested (IsTold.Structs none are tells) =
+accepted : (it : Interface) (d : LoweredDefinitions) → AllMade → NestingUntold it.modules d → IsWholeTelling it d [] → AreAccepted it d
+accepted it d made nested (IsWholeTelling.Items some is) = absurd (some refl)
+accepted it d made nested (IsWholeTelling.Structs none are tells) =
     let all = made it d (items_untold it none) are in
     record { untold = none; all = all; nested = nested it refl all tells }
 
-refused : (it : Interface) (d : LoweredDefinitions) (told : List LoweringReport) → AllMade → told ≢ [] → IsTold it d told → IsRefusal it told
-refused it d told made some (IsTold.Items _ is) = IsRefusal.OfItems some is
-refused it d told made some (IsTold.Structs none are tells) = IsRefusal.OfNesting d some none (made it d (items_untold it none) are) tells
+refused : (it : Interface) (d : LoweredDefinitions) (told : List LoweringReport) → AllMade → told ≢ [] → IsWholeTelling it d told → IsRefusal it told
+refused it d told made some (IsWholeTelling.Items _ is) = IsRefusal.OfItems some is
+refused it d told made some (IsWholeTelling.Structs none are tells) = IsRefusal.OfNesting d some none (made it d (items_untold it none) are) tells
 
 -- so the answer
 pub answered :
     (modules : List Module) (backend : Backend) (config : LoweringConfig) (names : ℕ → Naming) (d : LoweredDefinitions) (told : List LoweringReport)
-    → AllMade → ((v : LoweredDefinitions) → NestingUntold modules v) → HoldsByCatalog modules backend config names (λ it. IsTold it d told)
+    → AllMade → ((v : LoweredDefinitions) → NestingUntold modules v) → HoldsByCatalog modules backend config names (λ it. IsWholeTelling it d told)
     → (result : Result LoweredDefinitions LowerFault) → GivesUnlessTold told d result → AnswersAll modules backend config names result
 answered modules backend config names d told made nested tells (Ok v) gives =
     let it = interface_of modules backend config names tells.catalog in
     record {
       catalog = tells.catalog;
       is = tells.is;
-      holds = subst (λ x. AreAccepted it x) (sym gives.1) (accepted it d made (nested d) (subst (λ rs. IsTold it d rs) gives.0 tells.holds));
+      holds = subst (λ x. AreAccepted it x) (sym gives.1) (accepted it d made (nested d) (subst (λ rs. IsWholeTelling it d rs) gives.0 tells.holds));
     }
 answered modules backend config names d told made nested tells (Err (fault.Refused list)) gives =
     let it = interface_of modules backend config names tells.catalog in

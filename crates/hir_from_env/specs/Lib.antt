@@ -1,4 +1,5 @@
 pub mod Refusals
 pub mod Acceptance
 pub mod Placing
+pub mod Contexts
 pub mod inside

@@ -1,2 +1,3 @@
 -- What the calls tell one another.
 pub mod Telling
+pub mod Contexts

@@ -16,16 +16,17 @@
 //! | modules, then items kind by kind | `Kex names nothing`, at `ui::Page::print` |
 //! | how structs nest | `Line` contains itself, at `data::Line` |
 //!
-//! [`parts_of`] puts beside each definition the path of the module that its item stands in, here `crate::data` beside `Line` and `Cut` and
-//! `crate::ui` beside `Page`: these are the parts of a context.
 //!
 //! As in the crate `diplomat_core`, module `hir::type_context`, which stops at the first of some faults, and has no rule on nesting.
 #![tactic(auto)]
 
 mod fault;
+mod from_env;
+mod laws;
 mod placing;
 mod refusing;
 
 pub use fault::LowerFault;
-pub use placing::parts_of;
+pub use from_env::FromEnv;
+pub use laws::what_is_accepted_fits;
 pub use refusing::lower_or_refuse;

@@ -3,7 +3,7 @@
 ghost use Rattle.std.specs.Prelude.{◌≡◌, ◌++◌, ◌∷◌, [], IfOk, OnOk};
 ghost use Rattle.bridge_places.specs.Places.{of_kind, places_of};
 ghost use Rattle.bridge_places.specs.declared.kinds.Kind.{Kind};
-ghost use Rattle.hir_from_env.specs.Placing.{ArePlaced, AreParts, path_at, path_of_number};
+ghost use Rattle.hir_from_env.specs.Placing.{StandAtPlaces, AreParts, path_of_place, path_of_number};
 
 use bridge_ast::{Env, ItemPlace};
 use bridge_decl::{Items, NoMemory, Text};
@@ -26,7 +26,7 @@ fn path_copy(alloc: Global, path: &[Text]) -> Result<Items<Text>, NoMemory>
 
 /// The path of the module of a place.
 fn module_path(alloc: Global, env: &Env, place: ItemPlace) -> Result<Items<Text>, NoMemory>
-    ensures { IfOk result (λ path. path ≡ path_at env.now place) }
+    ensures { IfOk result (λ path. path ≡ path_of_place env.now place) }
 {
     match at(env.modules(), place.module) {
         Some(module) => path_copy(alloc, module.path.as_slice()),
@@ -69,7 +69,7 @@ fn place_all<D: Drop>(
     places: &[ItemPlace],
     defs: Vec<D>,
 ) -> Result<Items<Placed<D>>, NoMemory>
-    ensures { IfOk result (ArePlaced env.now places.now defs.items) }
+    ensures { IfOk result (StandAtPlaces env.now places.now defs.items) }
 {
     let mut left = Items::from_vec(defs);
     let mut placed = Vec::new(alloc);
@@ -82,7 +82,7 @@ fn place_all<D: Drop>(
 }
 
 /// The definitions of all kinds with the paths of their modules, by that order of the items.
-pub fn parts_of(
+pub(crate) fn parts_of(
     alloc: Global,
     env: &Env,
     order: &ItemOrder,

@@ -19,13 +19,13 @@ use Rattle.hir_from_env.specs.declared.fault.LowerFault.TheVariants as fault
 
 -- what a store that was empty gained of declarations: all that is told of them, or, where nothing is, all that is told of how the
 -- structs of their definitions nest
-pub data IsTold (it : Interface) (d : LoweredDefinitions) (told : List LoweringReport) : Type 0 where
-  Items : told ≢ [] → told ≡ lowering_reports it → IsTold it d told
-  Structs : lowering_reports it ≡ [] → AreLowered it d → TellsNestingOf it.modules d told → IsTold it d told
+pub data IsWholeTelling (it : Interface) (d : LoweredDefinitions) (told : List LoweringReport) : Type 0 where
+  Items : told ≢ [] → told ≡ lowering_reports it → IsWholeTelling it d told
+  Structs : lowering_reports it ≡ [] → AreLowered it d → TellsNestingOf it.modules d told → IsWholeTelling it d told
 
 -- so, where memory suffices
 abbrev pub TellsAll : {E : Type 0} → List Module → Backend → LoweringConfig → (ℕ → Naming) → List LoweringReport → Result LoweredDefinitions E → Type 0
-TellsAll modules backend config names told (Ok d) = HoldsByCatalog modules backend config names (λ it. IsTold it d told)
+TellsAll modules backend config names told (Ok d) = HoldsByCatalog modules backend config names (λ it. IsWholeTelling it d told)
 TellsAll modules backend config names told (Err e) = ⊤
 
 -- a value where nothing is told, and else what is
