@@ -62,7 +62,8 @@ use Rattle.hir_lowering.specs.Placing.{each_form, form_at}
 use Rattle.hir_lowering.specs.Walks.{interface_of}
 use Rattle.hir_from_env.specs.Acceptance.{AnswersAll, AreAccepted, HoldsByCatalog}
 use Rattle.hir_from_env.specs.Contexts.{AnswersContext, ListsAllItems, ListsItems, StandForItems}
-use Rattle.hir_from_env.specs.Placing.{AreParts, StandAtPlaces, path_of_place, path_of_number}
+use Rattle.hir_from_env.specs.Placing.{path_of_place}
+use Rattle.hir_from_env.specs.inside.Parts.{AreParts, StandAtPlaces, path_of_number}
 use Rattle.hir_from_env.specs.Refusals.{lowered_containment}
 use Rattle.hir_from_env.specs.declared.fault.LowerFault.{LowerFault}
 use Rattle.hir_from_env.specs.declared.fault.LowerFault.TheVariants as fault

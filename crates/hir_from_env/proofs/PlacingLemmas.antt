@@ -6,7 +6,7 @@ use Rattle.std.proofs.lemmas.List.{length-append, reverse-reverse}
 use Rattle.bridge_ast.specs.declared.place.ItemPlace.{ItemPlace}
 use Rattle.bridge_decl.specs.declared.modules.Module.{Module}
 use Rattle.hir_context.specs.declared.parts.Placed.{Placed}
-use Rattle.hir_from_env.specs.Placing.{StandAtPlaces, path_of_number}
+use Rattle.hir_from_env.specs.inside.Parts.{StandAtPlaces, path_of_number}
 
 -- one more, of which the path is that of its number
 pub module_more :

@@ -1,3 +1,4 @@
 -- What the calls tell one another.
 pub mod Telling
+pub mod Parts
 pub mod Contexts

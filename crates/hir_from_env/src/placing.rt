@@ -3,7 +3,8 @@
 ghost use Rattle.std.specs.Prelude.{◌≡◌, ◌++◌, ◌∷◌, [], IfOk, OnOk};
 ghost use Rattle.bridge_places.specs.Places.{of_kind, places_of};
 ghost use Rattle.bridge_places.specs.declared.kinds.Kind.{Kind};
-ghost use Rattle.hir_from_env.specs.Placing.{StandAtPlaces, AreParts, path_of_place, path_of_number};
+ghost use Rattle.hir_from_env.specs.Placing.{path_of_place};
+ghost use Rattle.hir_from_env.specs.inside.Parts.{StandAtPlaces, AreParts, path_of_number};
 
 use bridge_ast::{Env, ItemPlace};
 use bridge_decl::{Items, NoMemory, Text};

@@ -9,7 +9,7 @@ use Rattle.hir_context.specs.declared.parts.Definitions.{Definitions}
 use Rattle.hir_fitting.specs.declared.definitions.Unfit.{Unfit}
 use Rattle.hir_usage_notes.specs.Notes.{HaveUsages}
 use Rattle.hir_usage_notes.specs.declared.definitions.LoweredDefinitions.{LoweredDefinitions}
-use Rattle.hir_from_env.specs.Placing.{AreParts}
+use Rattle.hir_from_env.specs.inside.Parts.{AreParts}
 use Rattle.hir_from_env.specs.declared.fault.LowerFault.{LowerFault}
 use Rattle.hir_from_env.specs.declared.fault.LowerFault.TheVariants as fault
 

@@ -1,7 +1,7 @@
 use Rattle.std.proofs.Common.{◌∷◌, [], length, arith, ap, refl, sym, ◌∙◌}
 use Rattle.std.proofs.lemmas.List.{append-nil, length-append}
 use Rattle.hir_context.specs.declared.parts.Placed.{Placed}
-use Rattle.hir_from_env.specs.Placing.{path_of_number}
+use Rattle.hir_from_env.specs.inside.Parts.{path_of_number}
 use Rattle.hir_from_env.proofs.PlacingLemmas.{all_placed, module_more, placed_more, taken}
 use Rattle.hir_from_env.proofs.placing.place_all.Goals as goal
 

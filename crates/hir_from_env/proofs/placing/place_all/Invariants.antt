@@ -1,7 +1,7 @@
 use Rattle.std.proofs.Common.{◌≡◌, ◌++◌, List, length, map, reverse}
 use Rattle.std.specs.List.{enumerate_from}
 use Rattle.hir_context.specs.declared.parts.Placed.{Placed}
-use Rattle.hir_from_env.specs.Placing.{path_of_number}
+use Rattle.hir_from_env.specs.inside.Parts.{path_of_number}
 use Rattle.hir_from_env.proofs.placing.place_all.Given as goal
 
 abbrev pub invariant-loop-def : goal.invariant-loop-def
