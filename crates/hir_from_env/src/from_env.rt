@@ -27,8 +27,8 @@ use hir_lower::LoweringConfig;
 use hir_usage_notes::{LoweredDefinitions, note_usages};
 use std::alloc::Global;
 
-/// The context of parts. That something in them doesn't fit never comes: it would have been told of
-/// the declarations.
+/// The context of parts. That something in them doesn't fit never comes where they are those of what
+/// is accepted (`what_is_accepted_fits`), and so no empty list is told.
 fn context_of(alloc: Global, parts: ContextParts) -> Result<TypeContext, LowerFault>
     ensures { IsContextOf (AreDefinitions parts) result }
 {

@@ -1,4 +1,4 @@
-//! All declarations of an environment: the definitions of an interface, or all that is wrong.
+//! All declarations of an environment as one context, or all that is wrong in them.
 //!
 //! One example runs through this crate:
 //!
@@ -20,7 +20,7 @@
 //! [`lower_or_refuse`] answers with the definitions before uses are noted. That all of them fit together is a law,
 //! [`what_is_accepted_fits`]: a function whose contract says so.
 //!
-//! As in the crate `diplomat_core`, module `hir::type_context`, which stops at the first of some faults, and has no rule on nesting.
+//! As in the crate `diplomat_core`, module `hir::type_context`; the rules on nesting are this repository's own.
 #![tactic(auto)]
 
 mod fault;

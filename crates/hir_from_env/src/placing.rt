@@ -56,7 +56,8 @@ fn place_one<D: Drop>(
     def: D,
     module: Items<Text>,
 ) -> Result<(), NoMemory>
-    ensures { OnOk result (placed.new.items ≡ placed.old.items ++ record { def = def; «module» = «module» } ∷ []) }
+    ensures { OnOk result (placed.new.items
+        ≡ placed.old.items ++ record { def = def; «module» = «module» } ∷ []) }
 {
     placed.push(Placed { def, module })?;
     Ok(())
