@@ -8,7 +8,7 @@ use Rattle.bridge_decl.specs.declared.types.WriteType.TheVariants as write
 use Rattle.hir_backends.specs.declared.support.BackendAttrSupport.{BackendAttrSupport}
 use Rattle.hir_backends.specs.declared.support.flag.SupportFlag.TheVariants as flag
 use Rattle.hir_life.specs.declared.maybe_static.MaybeStatic.{MaybeStatic}
-use Rattle.hir_lower.specs.declared.config.LoweringConfig.{LoweringConfig}
+use Rattle.hir_config.specs.declared.config.LoweringConfig.{LoweringConfig}
 use Rattle.hir_number.specs.declared.numbered.NumberedType.{NumberedType, out-NumberedType}
 use Rattle.hir_number.specs.declared.numbered.NumberedType.TheOpen.{NumberedType-F}
 use Rattle.hir_reports.specs.declared.rule.Rule.TheVariants as rule

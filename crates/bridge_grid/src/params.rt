@@ -13,7 +13,7 @@ use crate::types::type_faults;
 use bridge_decl::{Items, NoMemory};
 use bridge_rules::{Catalog, Position};
 use hir_backends::BackendAttrSupport;
-use hir_lower::LoweringConfig;
+use hir_config::LoweringConfig;
 use hir_number::NumberedType;
 use hir_reports::Rule;
 use std::alloc::Global;

@@ -21,8 +21,8 @@ use bridge_ast::ItemPlace;
 use bridge_decl::{Mutability, NoMemory, WriteType};
 use bridge_rules::{Catalog, Position};
 use hir_backends::BackendAttrSupport;
+use hir_config::LoweringConfig;
 use hir_life::{Lifetime, MaybeStatic};
-use hir_lower::LoweringConfig;
 use hir_number::NumberedType;
 use std::alloc::Global;
 

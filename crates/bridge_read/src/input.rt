@@ -29,8 +29,8 @@ use crate::pointer::Pointer;
 use crate::reading::FromForm;
 use bridge_ast::{Env, EnvFault, EnvFaultKind, EnvPlace, NoMemory, Text};
 use hir_backends::BasicAttributeValidator;
+use hir_config::LoweringConfig;
 use hir_docs::DocsUrlGenerator;
-use hir_lower::LoweringConfig;
 use serde_json::Value;
 use std::alloc::{AllocError, Global};
 

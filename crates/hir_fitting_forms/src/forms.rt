@@ -30,14 +30,16 @@ ghost use Rattle.hir_fitting_forms.specs.NumberedFits.{NameFits, ReceiverFits, S
 pub fn types_stand_for_what_fits()
     ensures field { (census : Census) (catalog : Catalog) (count : ℕ) (ty : NumberedType)
         → TypeFits census catalog count ty
-        → IfSome (field_form catalog ty) (λ t. All (Fits census (Some count)) (field_mentions t)) }
+        → IfSome (field_form catalog ty)
+        (λ t. All (Fits census (Some count)) (field_mentions t)) }
     ensures out { (census : Census) (catalog : Catalog) (count : ℕ) (ty : NumberedType)
         → TypeFits census catalog count ty
         → IfSome (out_type_form catalog ty)
         (λ t. All (Fits census (Some count)) (output_mentions t)) }
     ensures param { (census : Census) (catalog : Catalog) (count : ℕ) (ty : NumberedType)
         → TypeFits census catalog count ty
-        → IfSome (param_form catalog ty) (λ t. All (Fits census (Some count)) (input_mentions t)) }
+        → IfSome (param_form catalog ty)
+        (λ t. All (Fits census (Some count)) (input_mentions t)) }
     ensures returned { (census : Census) (catalog : Catalog) (count : ℕ)
         (written : Option WriteType) (ty : NumberedType) → TypeFits census catalog count ty
         → IfSome (method_return_form catalog written ty)

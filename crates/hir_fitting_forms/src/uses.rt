@@ -41,7 +41,8 @@ pub fn uses_fit_where_types_do()
         → All (Fits census count) (callback_mentions c)
         → All (UseFits census) (callback_usages c) }
     ensures traits { (census : Census) (def : TraitDef)
-        → PartFits census (free (trait_mentions def)) → All (UseFits census) (trait_usages def) }
+        → PartFits census (free (trait_mentions def))
+        → All (UseFits census) (trait_usages def) }
     ensures fields { (census : Census)
         (fields : List (StructField Everywhere NoCallback Loan ℕ StructPath NoTraitPath))
         → All (UseFits census)

@@ -10,7 +10,7 @@ use Rattle.bridge_rules.specs.Shapes.{shape_of, shape_of_level}
 use Rattle.bridge_order.specs.declared.catalog.Catalog.{Catalog}
 use Rattle.bridge_rules.specs.declared.position.Position.TheVariants as at
 use Rattle.hir_backends.specs.declared.support.BackendAttrSupport.{BackendAttrSupport}
-use Rattle.hir_lower.specs.declared.config.LoweringConfig.{LoweringConfig}
+use Rattle.hir_config.specs.declared.config.LoweringConfig.{LoweringConfig}
 use Rattle.hir_number.specs.declared.numbered.NumberedType.{NumberedType, out-NumberedType}
 use Rattle.hir_number.specs.declared.numbered.NumberedType.TheOpen.{NumberedType-F}
 use Rattle.hir_types.specs.declared.paths.TraitPath.{TraitPath}

@@ -8,7 +8,7 @@ use Rattle.bridge_grid.specs.Params.{param_faults}
 use Rattle.bridge_order.specs.declared.catalog.Catalog.{Catalog}
 use Rattle.hir_backends.specs.declared.support.BackendAttrSupport.{BackendAttrSupport}
 use Rattle.hir_life.specs.declared.maybe_static.MaybeStatic.{MaybeStatic}
-use Rattle.hir_lower.specs.declared.config.LoweringConfig.{LoweringConfig}
+use Rattle.hir_config.specs.declared.config.LoweringConfig.{LoweringConfig}
 use Rattle.hir_number.specs.declared.numbered.NumberedType.{NumberedType}
 use Rattle.hir_number.specs.declared.numbered.Target.{Target}
 use Rattle.hir_number.specs.declared.signature.NumberedSignature.{NumberedSignature}

@@ -16,8 +16,8 @@ use bridge_grid::{
 };
 use bridge_rules::{Catalog, Position};
 use hir_backends::BackendAttrSupport;
+use hir_config::LoweringConfig;
 use hir_life::{Lifetime, MaybeStatic};
-use hir_lower::LoweringConfig;
 use hir_number::{NumberedType, Target};
 use hir_reports::ErrorStore;
 use hir_types::{

@@ -2,7 +2,7 @@
 use Rattle.bridge_order.specs.declared.catalog.Catalog.{Catalog}
 use Rattle.hir_backends.specs.Backend.{Backend}
 use Rattle.hir_backends.specs.declared.support.BackendAttrSupport.{BackendAttrSupport}
-use Rattle.hir_lower.specs.declared.config.LoweringConfig.{LoweringConfig}
+use Rattle.hir_config.specs.declared.config.LoweringConfig.{LoweringConfig}
 use Rattle.hir_number.specs.Naming.{Naming}
 use Rattle.hir_items.specs.declared.loans.Lowering.{Lowering}
 

@@ -16,19 +16,23 @@ ghost use Rattle.hir_items.specs.Structs.{out_struct_item_form, out_struct_repor
 /// An item of which nothing is told has a form, in which each enabled method of an enabled type
 /// stands. So neither an item nor a method is left out without a reason.
 pub fn what_is_fine_is_made()
-    ensures structs { (s : Setting) (path : List (List ℕ)) (place : ItemPlace) (module_set : Attrs)
-        (item : Struct) → struct_reports s path place module_set item ≡ []
+    ensures structs { (s : Setting) (path : List (List ℕ)) (place : ItemPlace)
+        (module_set : Attrs) (item : Struct)
+        → struct_reports s path place module_set item ≡ []
         → IsSome (struct_item_form s place module_set item) }
     ensures out_structs { (s : Setting) (path : List (List ℕ)) (place : ItemPlace)
-        (module_set : Attrs) (item : Struct) → out_struct_reports s path place module_set item ≡ []
+        (module_set : Attrs) (item : Struct)
+        → out_struct_reports s path place module_set item ≡ []
         → IsSome (out_struct_item_form s place module_set item) }
-    ensures opaques { (s : Setting) (path : List (List ℕ)) (place : ItemPlace) (module_set : Attrs)
-        (item : OpaqueType) → opaque_reports s path place module_set item ≡ []
+    ensures opaques { (s : Setting) (path : List (List ℕ)) (place : ItemPlace)
+        (module_set : Attrs) (item : OpaqueType)
+        → opaque_reports s path place module_set item ≡ []
         → IsSome (opaque_item_form s place module_set item) }
     ensures enums { (s : Setting) (path : List (List ℕ)) (place : ItemPlace) (module_set : Attrs)
         (item : Enum) → enum_reports s path place module_set item ≡ []
         → IsSome (enum_item_form s place module_set item) }
-    ensures functions { (s : Setting) (path : List (List ℕ)) (module_set : Attrs) (item : Function)
+    ensures functions { (s : Setting) (path : List (List ℕ)) (module_set : Attrs)
+        (item : Function)
         → function_reports s path module_set item ≡ []
         → IsSome (function_item_form s module_set item) }
 {

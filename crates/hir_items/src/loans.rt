@@ -3,7 +3,7 @@
 use bridge_ast::Env;
 use bridge_rules::Catalog;
 use hir_backends::BackendAttrSupport;
-use hir_lower::LoweringConfig;
+use hir_config::LoweringConfig;
 use std::alloc::Global;
 
 /// What items are lowered by, lent for all of them.

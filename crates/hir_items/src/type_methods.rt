@@ -74,7 +74,8 @@ fn add_methods<'tree, V: AttributeValidator>(
     requires number { place.«module» < length lent.now.env.now }
     requires sound { All IsSoundEnvironment (map (λ method. method.lifetime_env) methods.now) }
     ensures told { (names : Naming) → IsNaming lent.now.env.now place.«module» names
-        → OnOk result (errors.new ≡ with_reports (at_subitem errors.old None) (each_method_reports
+        → OnOk result (errors.new ≡ with_reports (at_subitem errors.old None)
+        (each_method_reports
         (setting (V.meaning lent.now.validator.now) lent.now names) errors.old.place.«module»
         errors.old.place.item place module_set.now methods.now)) }
     ensures made { (names : Naming) → IsNaming lent.now.env.now place.«module» names
@@ -108,7 +109,8 @@ pub(crate) fn lower_type_methods<'tree, V: AttributeValidator>(
     requires number { place.«module» < length lent.now.env.now }
     requires sound { All IsSoundEnvironment (map (λ method. method.lifetime_env) methods.now) }
     ensures told { (names : Naming) → IsNaming lent.now.env.now place.«module» names
-        → OnOk result (errors.new ≡ with_reports (at_subitem errors.old None) (type_method_reports
+        → OnOk result (errors.new ≡ with_reports (at_subitem errors.old None)
+        (type_method_reports
         (setting (V.meaning lent.now.validator.now) lent.now names) errors.old.place.«module»
         errors.old.place.item place module_set.now marks.now methods.now)) }
     ensures made { (names : Naming) → IsNaming lent.now.env.now place.«module» names

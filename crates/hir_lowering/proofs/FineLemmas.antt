@@ -23,7 +23,7 @@ use Rattle.hir_items.specs.Inheriting.{item_start}
 use Rattle.hir_items.specs.Opaques.{opaque_item_form, opaque_reports}
 use Rattle.hir_items.specs.Setting.{Setting}
 use Rattle.hir_items.specs.Structs.{out_struct_item_form, out_struct_reports, struct_item_form, struct_reports}
-use Rattle.hir_lower.specs.declared.config.LoweringConfig.{LoweringConfig}
+use Rattle.hir_config.specs.declared.config.LoweringConfig.{LoweringConfig}
 use Rattle.hir_modules.specs.ModuleMarks.{module_marks}
 use Rattle.hir_number.specs.Naming.{Naming}
 use Rattle.hir_reports.specs.declared.report.LoweringReport.{LoweringReport}

@@ -7,7 +7,7 @@ use Rattle.bridge_decl.specs.declared.modules.Module.{Module}
 use Rattle.bridge_order.specs.declared.catalog.Catalog.{Catalog}
 use Rattle.bridge_places.specs.Entries.{IsCatalog}
 use Rattle.hir_backends.specs.Backend.{Backend}
-use Rattle.hir_lower.specs.declared.config.LoweringConfig.{LoweringConfig}
+use Rattle.hir_config.specs.declared.config.LoweringConfig.{LoweringConfig}
 use Rattle.hir_mentions.proofs.Listing.{next_listed}
 use Rattle.hir_modules.specs.Holding.{HoldsStill}
 use Rattle.hir_modules.specs.ModuleMarks.{all_module_reports}

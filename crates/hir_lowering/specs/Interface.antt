@@ -4,7 +4,7 @@ use Rattle.bridge_decl.specs.declared.modules.Module.{Module}
 use Rattle.bridge_order.specs.declared.catalog.Catalog.{Catalog}
 use Rattle.hir_backends.specs.Backend.{Backend}
 use Rattle.hir_items.specs.Setting.{Setting}
-use Rattle.hir_lower.specs.declared.config.LoweringConfig.{LoweringConfig}
+use Rattle.hir_config.specs.declared.config.LoweringConfig.{LoweringConfig}
 use Rattle.hir_number.specs.Naming.{IsNaming, Naming}
 
 pub record Interface : Type 0 where

@@ -16,7 +16,7 @@ use Rattle.hir_form.proofs.SignatureLemmas.{signature_given}
 use Rattle.hir_form.specs.SignatureForms.{signature_faults, signature_form}
 use Rattle.hir_form.specs.declared.signatures.LoweredSignature.{LoweredSignature}
 use Rattle.hir_heads.specs.Heads.{lifetime_errors}
-use Rattle.hir_lower.specs.declared.config.LoweringConfig.{LoweringConfig}
+use Rattle.hir_config.specs.declared.config.LoweringConfig.{LoweringConfig}
 use Rattle.hir_number.proofs.ElisionLemmas.{function_elided, method_elided}
 use Rattle.hir_number.proofs.FaultLemmas.{FineBy, IsLowered, answers_lowered}
 use Rattle.hir_number.specs.Breaches.{Broken, function_breaches, method_breaches}

@@ -8,7 +8,7 @@ use Rattle.hir_attrs.specs.declared.attrs.Attrs.{Attrs}
 use Rattle.hir_backends.specs.Backend.{Backend}
 use Rattle.hir_backends.specs.declared.support.BackendAttrSupport.{BackendAttrSupport}
 use Rattle.hir_definitions.specs.declared.methods.Method.{Method}
-use Rattle.hir_lower.specs.declared.config.LoweringConfig.{LoweringConfig}
+use Rattle.hir_config.specs.declared.config.LoweringConfig.{LoweringConfig}
 use Rattle.hir_number.specs.Naming.{Naming}
 use Rattle.hir_number.specs.Signatures.{without_writer}
 use Rattle.hir_reports.specs.declared.report.LoweringError.{LoweringError}

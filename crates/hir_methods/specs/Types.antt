@@ -12,7 +12,7 @@ use Rattle.hir_definitions.specs.declared.methods.ParamSelf.{ParamSelf}
 use Rattle.hir_form.specs.ParamForms.{ParamType}
 use Rattle.hir_form.specs.ReturnForms.{both_given}
 use Rattle.hir_form.specs.SignatureForms.{signature_faults}
-use Rattle.hir_lower.specs.declared.config.LoweringConfig.{LoweringConfig}
+use Rattle.hir_config.specs.declared.config.LoweringConfig.{LoweringConfig}
 use Rattle.hir_number.specs.Breaches.{function_breaches, method_breaches}
 use Rattle.hir_number.specs.Naming.{Naming}
 use Rattle.hir_number.specs.declared.signature.NumberedSignature.{NumberedSignature}

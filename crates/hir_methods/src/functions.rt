@@ -23,10 +23,10 @@ use bridge_grid::{tell, test_free_function};
 use bridge_rules::Catalog;
 use hir_attrs::Attrs;
 use hir_backends::{AttributeValidator, BackendAttrSupport};
+use hir_config::LoweringConfig;
 use hir_definitions::Method;
 use hir_ids::Ident;
 use hir_life::LifetimeEnv;
-use hir_lower::LoweringConfig;
 use hir_number::before_writer;
 use hir_reports::ErrorStore;
 use hir_types::{ReturnType, SuccessType};
@@ -141,7 +141,8 @@ fn lower_headed<V: AttributeValidator>(
         → OnOk result (errors.new ≡ added errors.old (unless_disabled attrs (callable_errors
         (V.meaning validator.now) support.now config catalog.now names function.now))) }
     ensures made { (names : Naming) (it : Heading) → IsNaming env.now number names
-        → heading ≡ Some it → IfOk result (GivenUnlessTold (unless_disabled attrs (callable_errors
+        → heading ≡ Some it → IfOk result
+        (GivenUnlessTold (unless_disabled attrs (callable_errors
         (V.meaning validator.now) support.now config catalog.now names function.now))
         (headed_form (V.meaning validator.now) catalog.now names attrs it function.now)) }
     ensures kept { (earlier : Held) → Keeps earlier errors.old → Keeps earlier errors.new }

@@ -9,7 +9,7 @@ ghost use Rattle.hir_attrs.specs.Reading.{marks_of};
 ghost use Rattle.hir_attrs.specs.declared.attrs.Attrs.{Attrs};
 ghost use Rattle.hir_backends.specs.Backend.{Backend};
 ghost use Rattle.hir_backends.specs.declared.support.BackendAttrSupport.{BackendAttrSupport};
-ghost use Rattle.hir_lower.specs.declared.config.LoweringConfig.{LoweringConfig};
+ghost use Rattle.hir_config.specs.declared.config.LoweringConfig.{LoweringConfig};
 ghost use Rattle.hir_methods.specs.Functions.{function_errors, function_form};
 ghost use Rattle.hir_methods.specs.Methods.{method_errors, method_form};
 ghost use Rattle.hir_number.specs.Naming.{Naming};

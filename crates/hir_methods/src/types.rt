@@ -12,7 +12,7 @@ use bridge_ast::{Env, ItemPlace};
 use bridge_decl::{Function, Method, NoMemory};
 use bridge_rules::Catalog;
 use hir_backends::BackendAttrSupport;
-use hir_lower::LoweringConfig;
+use hir_config::LoweringConfig;
 use hir_number::paths_have_a_meaning;
 use hir_reports::ErrorStore;
 use hir_signatures::{SignatureTypes, lower_function_signature, lower_method_signature};

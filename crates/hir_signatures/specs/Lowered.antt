@@ -7,7 +7,7 @@ use Rattle.bridge_decl.specs.declared.types.WriteType.{WriteType}
 use Rattle.bridge_order.specs.declared.catalog.Catalog.{Catalog}
 use Rattle.hir_backends.specs.declared.support.BackendAttrSupport.{BackendAttrSupport}
 use Rattle.hir_form.specs.SignatureForms.{signature_faults}
-use Rattle.hir_lower.specs.declared.config.LoweringConfig.{LoweringConfig}
+use Rattle.hir_config.specs.declared.config.LoweringConfig.{LoweringConfig}
 use Rattle.hir_number.specs.Breaches.{function_breaches, method_breaches}
 use Rattle.hir_number.specs.Naming.{Naming}
 use Rattle.hir_number.specs.Numbered.{IsNumberedFunction, IsNumberedMethod}

@@ -19,9 +19,9 @@ use bridge_ast::{Env, ItemPlace};
 use bridge_decl::{Function, Method, NoMemory, WriteType};
 use bridge_rules::Catalog;
 use hir_backends::BackendAttrSupport;
+use hir_config::LoweringConfig;
 use hir_form::{LoweredSignature, judge_signature};
 use hir_life::LifetimeEnv;
-use hir_lower::LoweringConfig;
 use hir_number::{
     NumberFault, NumberedSignature, function_breaches, method_breaches, number_function,
     number_method,

@@ -20,7 +20,7 @@ use Rattle.hir_form.specs.ParamForms.{all_given, out_type_form}
 use Rattle.hir_heads.specs.Heads.{lifetime_errors}
 use Rattle.hir_heads.specs.Names.{name_errors}
 use Rattle.hir_items.specs.Placing.{at_item_itself, at_method_of, where_enabled}
-use Rattle.hir_lower.specs.declared.config.LoweringConfig.{LoweringConfig}
+use Rattle.hir_config.specs.declared.config.LoweringConfig.{LoweringConfig}
 use Rattle.hir_methods.proofs.DisabledLemmas.{enabled_all}
 use Rattle.hir_methods.proofs.FormLemmas.{fault_told, tells_itself, whole_lowered}
 use Rattle.hir_methods.proofs.StageLemmas.{unfaulted}

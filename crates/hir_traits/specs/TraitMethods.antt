@@ -12,7 +12,7 @@ use Rattle.hir_backends.specs.declared.support.BackendAttrSupport.{BackendAttrSu
 use Rattle.hir_docs.specs.Docs.{docs_errors, docs_for}
 use Rattle.hir_heads.specs.Heads.{lifetime_errors}
 use Rattle.hir_heads.specs.Names.{name_errors}
-use Rattle.hir_lower.specs.declared.config.LoweringConfig.{LoweringConfig}
+use Rattle.hir_config.specs.declared.config.LoweringConfig.{LoweringConfig}
 use Rattle.hir_methods.specs.Joining.{completed}
 use Rattle.hir_methods.specs.Untyped.{unless_disabled}
 use Rattle.hir_number.specs.Naming.{Naming}

@@ -13,7 +13,7 @@ use Rattle.hir_backends.specs.declared.support.BackendAttrSupport.{BackendAttrSu
 use Rattle.hir_form.specs.Forms.{trait_path}
 use Rattle.hir_form.specs.ParamForms.{CallbackReturned, all_given, callback_return_form, out_type_form}
 use Rattle.hir_form.specs.ReturnForms.{both_given}
-use Rattle.hir_lower.specs.declared.config.LoweringConfig.{LoweringConfig}
+use Rattle.hir_config.specs.declared.config.LoweringConfig.{LoweringConfig}
 use Rattle.hir_number.specs.Breaches.{trait_method_breaches}
 use Rattle.hir_number.specs.Naming.{Naming}
 use Rattle.hir_number.specs.declared.numbered.NumberedType.{NumberedType}

@@ -22,7 +22,7 @@ use Rattle.hir_heads.specs.Names.{name_errors}
 use Rattle.hir_items.specs.Opaques.{limit_errors}
 use Rattle.hir_items.specs.Placing.{at_item_itself, at_method_of, where_enabled}
 use Rattle.hir_life.specs.Declarations.{declared_environment}
-use Rattle.hir_lower.specs.declared.config.LoweringConfig.{LoweringConfig}
+use Rattle.hir_config.specs.declared.config.LoweringConfig.{LoweringConfig}
 use Rattle.hir_methods.specs.Untyped.{unless_disabled}
 use Rattle.hir_number.specs.Naming.{Naming}
 use Rattle.hir_reports.specs.Store.{at_place, told_at}

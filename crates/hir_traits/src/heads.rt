@@ -130,7 +130,8 @@ pub fn lower_head<V: AttributeValidator>(
         (trait_method_head_errors (V.meaning validator.now) method.now)
         (trait_method_head (V.meaning validator.now) method.now) read.head) }
     ensures named { IfOk result (λ read. MatchBool read.are_named
-        (lifetime_errors method.now.lifetimes ≡ []) (lifetime_errors method.now.lifetimes ≢ [])) }
+        (lifetime_errors method.now.lifetimes ≡ [])
+        (lifetime_errors method.now.lifetimes ≢ [])) }
     ensures kept { (earlier : Held) → Keeps earlier errors.old → Keeps earlier errors.new }
 {
     let docs = read_docs(alloc, &method.docs, validator, errors)?;

@@ -7,7 +7,7 @@ ghost use Rattle.bridge_order.specs.declared.catalog.Catalog.{Catalog};
 ghost use Rattle.hir_attrs.specs.declared.attrs.Attrs.{Attrs};
 ghost use Rattle.hir_backends.specs.Backend.{Backend};
 ghost use Rattle.hir_backends.specs.declared.support.BackendAttrSupport.{BackendAttrSupport};
-ghost use Rattle.hir_lower.specs.declared.config.LoweringConfig.{LoweringConfig};
+ghost use Rattle.hir_config.specs.declared.config.LoweringConfig.{LoweringConfig};
 ghost use Rattle.hir_number.specs.Naming.{Naming};
 ghost use Rattle.hir_traits.specs.Traits.{trait_form, trait_reports};
 

@@ -46,7 +46,8 @@ fn test_breaches(
         → OnOk result (errors.new ≡ added errors.old
         (map breach_error (trait_method_breaches names place method.now))) }
     ensures fine { (names : Naming) → IsNaming env.now place.«module» names
-        → IfOk result (λ fine. MatchBool fine (trait_method_breaches names place method.now ≡ [])
+        → IfOk result (λ fine. MatchBool fine
+        (trait_method_breaches names place method.now ≡ [])
         (trait_method_breaches names place method.now ≢ [])) }
     ensures kept { (earlier : Held) → Keeps earlier errors.old → Keeps earlier errors.new }
 {

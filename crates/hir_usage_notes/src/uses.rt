@@ -45,7 +45,8 @@ pub trait UsesDefinitions {
 
     /// Notes how it does.
     fn note_in(&self, alloc: Global, table: &mut UseTable) -> Result<(), NoMemory>
-        ensures { OnOk result (usages table.new ≡ noted (usages_of self.now) (usages table.old)) };
+        ensures { OnOk result
+            (usages table.new ≡ noted (usages_of self.now) (usages table.old)) };
 }
 
 impl<P: PositionUses> UsesDefinitions for StructDef<P> {

@@ -5,7 +5,7 @@ use Rattle.hir_backends.specs.declared.support.flag.SupportFlag.{SupportFlag}
 use Rattle.hir_backends.specs.declared.validator.BasicAttributeValidator.{BasicAttributeValidator}
 use Rattle.hir_backends.specs.Support.{no_flags}
 use Rattle.hir_docs.specs.Urls.{BaseUrls}
-use Rattle.hir_lower.specs.declared.config.LoweringConfig.{LoweringConfig}
+use Rattle.hir_config.specs.declared.config.LoweringConfig.{LoweringConfig}
 use Rattle.bridge_read.specs.declared.keys.Key.TheVariants as key
 use Rattle.bridge_read.specs.forms.Settings.{flag_words, turned_on, support_flag, supported, pair_of, name_value, names_of, backend_names, backend_of, backend, config_of, config, entered, bases, urls_of, urls}
 use Rattle.bridge_read.proofs.FormLaws.{Lawful, LawfulParts}

@@ -4,7 +4,7 @@ use Rattle.bridge_decl.specs.declared.modules.Module.{Module}
 use Rattle.hir_backends.specs.Validator.{plain_validator}
 use Rattle.hir_backends.specs.declared.validator.BasicAttributeValidator.{BasicAttributeValidator}
 use Rattle.hir_docs.specs.Urls.{BaseUrls}
-use Rattle.hir_lower.specs.declared.config.LoweringConfig.{LoweringConfig}
+use Rattle.hir_config.specs.declared.config.LoweringConfig.{LoweringConfig}
 use Rattle.bridge_read.specs.declared.input.Declared.{Declared}
 use Rattle.bridge_read.specs.declared.keys.Key.TheVariants as key
 use Rattle.bridge_read.specs.Form.{Form, object_with, made, ◌&◌, needs, may_be}

@@ -8,7 +8,7 @@ use Rattle.hir_backends.specs.declared.support.flag.SupportFlag.{SupportFlag}
 use Rattle.hir_backends.specs.declared.validator.BasicAttributeValidator.{BasicAttributeValidator}
 use Rattle.hir_backends.specs.Support.{every_flag, flag_text, no_flags, with_flag}
 use Rattle.hir_docs.specs.Urls.{BaseUrls}
-use Rattle.hir_lower.specs.declared.config.LoweringConfig.{LoweringConfig}
+use Rattle.hir_config.specs.declared.config.LoweringConfig.{LoweringConfig}
 use Rattle.bridge_read.specs.declared.keys.Key.TheVariants as key
 use Rattle.bridge_read.specs.Form.{Form, Parts, object_with, made, ◌&◌, needs, may_be, may_have, mapped, grouped, dictionary, list, text, flag, one_word}
 

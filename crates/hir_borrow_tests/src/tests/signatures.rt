@@ -41,7 +41,8 @@ fn node(
     longer: &[Lifetime],
     shorter: &[Lifetime],
 ) -> Result<BoundedLifetime, Fail>
-    ensures { IfOk result (λ node. (node.longer ≡ longer.now) × (node.shorter ≡ shorter.now)) }
+    ensures { IfOk result
+        (λ node. (node.longer ≡ longer.now) × (node.shorter ≡ shorter.now)) }
 {
     let ident = IdentBuf::new(alloc, name)?;
     Ok(BoundedLifetime {

@@ -1,9 +1,0 @@
-use Rattle.hir_context.specs.Listing.{AreDefinitions}
-use Rattle.hir_from_env.specs.inside.Contexts.{PlacedAs}
-use Rattle.hir_from_env.proofs.ContextLemmas.{weaker_context}
-use Rattle.hir_from_env.proofs.from_env.placed_context.Goals as goal
-
-pub returns-in-Ok : goal.returns-in-Ok
-returns-in-Ok c =
-    weaker_context (AreDefinitions c.in-Ok.parts) (PlacedAs c.args.env.now c.args.defs)
-    (λ defs lists. record { parts = c.in-Ok.parts; are = c.in-Ok.ensures; lists = lists }) c.context_of.result c.context_of.ensures

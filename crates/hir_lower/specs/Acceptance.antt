@@ -1,0 +1,34 @@
+-- What declarations come to: their definitions, or all that is wrong.
+use Rattle.std.specs.Prelude.{◌≡◌, ⊤, ℕ, List, [], Result, Ok, Err}
+use Rattle.bridge_decl.specs.declared.modules.Module.{Module}
+use Rattle.bridge_order.specs.declared.catalog.Catalog.{Catalog}
+use Rattle.bridge_places.specs.Entries.{IsCatalog}
+use Rattle.hir_backends.specs.Backend.{Backend}
+use Rattle.hir_config.specs.declared.config.LoweringConfig.{LoweringConfig}
+use Rattle.hir_nesting.specs.Faults.{AllNestWell}
+use Rattle.hir_number.specs.Naming.{Naming}
+use Rattle.hir_usage_notes.specs.declared.definitions.LoweredDefinitions.{LoweredDefinitions}
+use Rattle.hir_lowering.specs.Interface.{Interface}
+use Rattle.hir_lowering.specs.Lowered.{AreAllLowered, lowering_reports}
+use Rattle.hir_lowering.specs.Walks.{interface_of}
+use Rattle.hir_lower.specs.Refusals.{IsRefusal, lowered_containment}
+use Rattle.hir_lower.specs.declared.fault.LowerFault.{LowerFault}
+use Rattle.hir_lower.specs.declared.fault.LowerFault.TheVariants as fault
+
+-- something holds of declarations, by a catalog of their modules
+pub record HoldsByCatalog (modules : List Module) (backend : Backend) (config : LoweringConfig) (names : ℕ → Naming) (P : Interface → Type 0) : Type 0 where
+  pub catalog : Catalog
+  pub is : IsCatalog modules catalog
+  pub holds : P (interface_of modules backend config names catalog)
+
+-- nothing is wrong in declarations, and these are the definitions of all their items
+pub record AreAccepted (it : Interface) (d : LoweredDefinitions) : Type 0 where
+  pub untold : lowering_reports it ≡ []
+  pub all : AreAllLowered it d
+  pub nested : AllNestWell (lowered_containment d)
+
+-- the definitions of all items, or all that is wrong, or want of memory
+abbrev pub AnswersAll : List Module → Backend → LoweringConfig → (ℕ → Naming) → Result LoweredDefinitions LowerFault → Type 0
+AnswersAll modules backend config names (Ok d) = HoldsByCatalog modules backend config names (λ it. AreAccepted it d)
+AnswersAll modules backend config names (Err (fault.Refused told)) = HoldsByCatalog modules backend config names (λ it. IsRefusal it told.items)
+AnswersAll modules backend config names (Err fault.NoMemory) = ⊤
