@@ -1,0 +1,2 @@
+pub mod ExactLemmas
+pub mod GivenLemmas

@@ -1,0 +1,12 @@
+-- What a list tells of things of which something may be said: of errors, that a rule is broken.
+use Rattle.std.specs.Prelude.{◌↔◌, List}
+use Rattle.std.specs.List.{Contains}
+
+-- the list has all of which it is said, and nothing else
+abbrev pub TellsExactly : {E : Type 0} → List E → (E → Type 0) → Type 0
+TellsExactly {E} told Says = (e : E) → Contains told e ↔ Says e
+
+-- it is said of each in the list; and, given that `Given` holds, the list isn't empty where it is said of anything
+pub record TellsGiven (Given : Type 0) {E : Type 0} (told : List E) (Says : E → Type 0) : Type 0 where
+  pub each : (e : E) → Contains told e → Says e
+  pub some : Given → (e : E) → Says e → (one : E) × Contains told one
