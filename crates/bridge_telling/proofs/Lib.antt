@@ -1,2 +1,3 @@
 pub mod ExactLemmas
 pub mod GivenLemmas
+pub mod PlaceLemmas

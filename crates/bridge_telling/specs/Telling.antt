@@ -1,5 +1,5 @@
 -- What a list tells of things of which something may be said: of errors, that a rule is broken.
-use Rattle.std.specs.Prelude.{◌↔◌, List}
+use Rattle.std.specs.Prelude.{◌≡◌, ◌↔◌, List}
 use Rattle.std.specs.List.{Contains}
 
 -- the list has all of which it is said, and nothing else
@@ -10,3 +10,8 @@ TellsExactly {E} told Says = (e : E) → Contains told e ↔ Says e
 pub record TellsGiven (Given : Type 0) {E : Type 0} (told : List E) (Says : E → Type 0) : Type 0 where
   pub each : (e : E) → Contains told e → Says e
   pub some : Given → (e : E) → Says e → (one : E) × Contains told one
+
+-- it is said of each in the list; and wherever it is said of anything, the list has something at the same place
+pub record TellsPlaces {E C : Type 0} (place : E → C) (told : List E) (Says : E → Type 0) : Type 0 where
+  pub each : (e : E) → Contains told e → Says e
+  pub every : (e : E) → Says e → (one : E) × (Contains told one × (place one ≡ place e))
