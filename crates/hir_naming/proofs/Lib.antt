@@ -1,0 +1,3 @@
+pub mod ModulePathLemmas
+pub mod FollowingLemmas
+pub mod NamingLemmas
