@@ -1,11 +1,11 @@
 //! Callbacks, as parameters.
 
-use hir_config::LoweringConfig;
 use super::notation::parse;
 use super::rows::words;
 use super::{backend, catalog};
 use bridge_decl::{Boxed, Items, Mutability, NoMemory};
 use bridge_grid::test_param;
+use hir_config::LoweringConfig;
 use hir_number::NumberedType;
 use std::alloc::Global;
 use std::process::Abort;

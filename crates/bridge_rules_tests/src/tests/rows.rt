@@ -1,12 +1,12 @@
 //! What a row of the table is compared with.
 
-use hir_config::LoweringConfig;
 use super::{backend, catalog};
 use crate::tests::notation::parse;
 use bridge_decl::NoMemory;
 use bridge_grid::{TypeFault, TypeFaults, test_callback_param, test_param, test_return, test_type};
 use bridge_rules::{Catalog, Position};
 use hir_backends::BackendAttrSupport;
+use hir_config::LoweringConfig;
 use hir_number::NumberedType;
 use std::alloc::Global;
 
