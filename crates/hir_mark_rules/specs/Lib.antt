@@ -1,0 +1,4 @@
+pub mod Counting
+pub mod Arguments
+pub mod rules
+pub mod MarkBreaks

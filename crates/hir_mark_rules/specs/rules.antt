@@ -1,0 +1,11 @@
+pub mod AutoMisplaced
+pub mod UnknownPair
+pub mod MarkUnsupported
+pub mod SecondSpecial
+pub mod MarkArgument
+pub mod MarkRepeated
+pub mod AutoIneligible
+pub mod BadInclude
+pub mod IncludeRepeated
+pub mod BadDefaultValue
+pub mod UnknownMark
