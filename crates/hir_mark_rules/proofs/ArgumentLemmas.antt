@@ -1,7 +1,7 @@
 -- Which arguments suit, as tests and as facts.
-use Rattle.std.proofs.Common.{◌≡◌, ◌⊎◌, inl, inr, ℕ, ◌≤◌, List, Bool, true, false, cond, Option, Some, None, refl, sym, ap, ◌∙◌, subst}
+use Rattle.std.proofs.Common.{◌≡◌, ℕ, List, Bool, true, false, cond, Option, Some, None, refl, ap, ◌∙◌, subst}
 use Rattle.std.specs.Prelude.{nat_le}
-use Rattle.std.proofs.lemmas.Bool.{leb-true, leb-false, le-leb, lt-leb}
+use Rattle.std.proofs.lemmas.Bool.{leb-true, le-leb}
 use Rattle.bridge_text.specs.Rename.{placeholder_count}
 use Rattle.bridge_decl.specs.declared.attrs.Lit.{Lit}
 use Rattle.bridge_decl.specs.declared.attrs.Lit.TheVariants as lit

@@ -1,5 +1,5 @@
 -- A literal gives no default value exactly where it is a bad one.
-use Rattle.std.proofs.Common.{◌≡◌, ◌⊎◌, ◌↔◌, inl, inr, ℕ, ◌+◌, ◌-◌, ◌*◌, ◌<◌, List, [], ◌∷◌, Bool, true, false, ◌&&◌, cond, Option, Some, None, option_map, pos, refl, sym, ap, ◌∙◌, subst, arith}
+use Rattle.std.proofs.Common.{◌≡◌, ◌⊎◌, ◌↔◌, inl, inr, ℕ, ◌<◌, List, [], ◌∷◌, Bool, true, false, ◌&&◌, cond, Option, Some, None, option_map, pos, refl, sym, ap, ◌∙◌}
 use Rattle.std.specs.Prelude.{nat_le}
 use Rattle.std.specs.List.{Contains, list_all}
 use Rattle.std.proofs.lemmas.Bool.{leb-false, lt-leb}
@@ -7,7 +7,6 @@ use Rattle.bridge_telling.proofs.ExactLemmas.{in_cases, in_first, in_none, in_re
 use Rattle.bridge_decl.specs.declared.attrs.Lit.{Lit}
 use Rattle.bridge_decl.specs.declared.attrs.Lit.TheVariants as lit
 use Rattle.hir_attrs.specs.Values.{default_of, is_digit, most_integer, number_after, written_integer}
-use Rattle.hir_attrs.specs.declared.values.DefaultArgValue.{DefaultArgValue}
 use Rattle.hir_attrs.specs.declared.values.DefaultArgValue.TheVariants as default
 use Rattle.hir_mark_rules.specs.rules.BadDefaultValue.{IsBadDefault}
 

@@ -325,4 +325,4 @@ list_of xs ys h = cc
 
 pub only_location : (value : MetaValue) (pair : IncludeLocation × IncludeSource) (it : IncludeLocation) → include_of value ≡ Some pair → IsLastLocation value it → pair.0 ≡ it
 only_location value pair it h l = let f = last_value value pair h in
-  some_same pair.0 it (sym f.1.1.1.1 ∙ gives_last l.before l.last l.after it no_parts f.1.1.0 l.called l.gives l.none_after (ap (λ assigns. parts_from (Some no_parts) assigns) (list_of (l.before ++ l.last ∷ l.after) f.0 (sym l.listed ∙ f.1.0)) ∙ f.1.1.1.0))
+    some_same pair.0 it (sym f.1.1.1.1 ∙ gives_last l.before l.last l.after it no_parts f.1.1.0 l.called l.gives l.none_after (ap (λ assigns. parts_from (Some no_parts) assigns) (list_of (l.before ++ l.last ∷ l.after) f.0 (sym l.listed ∙ f.1.0)) ∙ f.1.1.1.0))

@@ -4,3 +4,7 @@ pub mod IncludeLemmas
 pub mod PlaceLemmas
 pub mod ArgumentLemmas
 pub mod ReadingLemmas
+pub mod ToldLemmas
+pub mod BreakLemmas
+pub mod MarksLemmas
+pub mod DocsLemmas

@@ -1,11 +1,8 @@
 -- What marks are read as, where they count.
-use Rattle.std.proofs.Common.{◌≡◌, ℕ, List, [], ◌∷◌, Bool, true, false, not, cond, Option, Some, None, if◌then◌else◌, refl, sym, ap, ◌∙◌, subst}
+use Rattle.std.proofs.Common.{◌≡◌, ℕ, List, Bool, true, false, not, cond, Option, Some, None, refl, sym, ap, ◌∙◌}
 use Rattle.bridge_decl.specs.declared.attrs.DiplomatBackendAttr.{DiplomatBackendAttr}
-use Rattle.bridge_decl.specs.declared.attrs.MetaValue.{MetaValue}
 use Rattle.hir_backends.specs.Backend.{Backend}
-use Rattle.hir_backends.specs.Conditions.{condition_met}
 use Rattle.hir_backends.specs.Support.{checked, flag_on}
-use Rattle.hir_backends.specs.declared.conditions.Met.{Met}
 use Rattle.hir_backends.specs.declared.support.flag.SupportFlag.{SupportFlag}
 use Rattle.hir_attrs.specs.Marks.{mark_flag, mark_form, mark_named, mark_text}
 use Rattle.hir_attrs.specs.Reading.{is_denied, is_refused, read_form, read_mark, read_met, read_name, read_named, read_path, read_special, unsupported}
