@@ -114,14 +114,14 @@ module _ (backend : Backend) (attrs : Attrs) (it : DiplomatBackendAttr) where
   second_breaks : (name : List ℕ) → SecondSpecial backend attrs it name → Contains (reading_errors (read_mark backend attrs it)) (about rule.SecondSpecial name)
   second_breaks name h = let given = suits_given h.kind it.meta.value h.suits in
       told_alone (about rule.SecondSpecial name) (
-      read_as_special backend attrs it h.special.by_auto name h.kind h.special.read h.special.called
+      read_as_special backend attrs it h.special.by_auto name h.kind h.special.taken h.special.called
       ∙ ap (λ g. read_special backend h.special.by_auto attrs name it.meta.value (special_with h.kind g)) given.1
       ∙ ap (λ earlier. specialized earlier name (special_of h.kind given.0)) h.stands
       )
 
   argument_breaks : (name : List ℕ) → MarkArgument backend it name → Contains (reading_errors (read_mark backend attrs it)) (about rule.MarkArgument name)
   argument_breaks name (MarkArgument.of_special kind special unsuits) = told_alone (about rule.MarkArgument name) (
-      read_as_special backend attrs it special.by_auto name kind special.read special.called
+      read_as_special backend attrs it special.by_auto name kind special.taken special.called
       ∙ ap (λ g. read_special backend special.by_auto attrs name it.meta.value (special_with kind g)) (not_given kind it.meta.value unsuits)
       )
   argument_breaks name (MarkArgument.of_row row by_auto is unsuits) = subst (λ n. Contains (reading_errors (read_mark backend attrs it)) (about rule.MarkArgument n)) (sym is.called) (
@@ -178,4 +178,4 @@ module _ (backend : Backend) (attrs : Attrs) (it : DiplomatBackendAttr) where
   mark_breaks_told e (MarkBreaks.bad_include h) = include_breaks h
   mark_breaks_told e (MarkBreaks.include_repeated h) = taken_breaks h
   mark_breaks_told e (MarkBreaks.bad_default_value h) = default_breaks h
-  mark_breaks_told e (MarkBreaks.unknown_mark name h) = told_alone (about rule.UnknownMark name) (read_unknown backend attrs it h.by_auto name h.read h.no_special h.no_row)
+  mark_breaks_told e (MarkBreaks.unknown_mark name h) = told_alone (about rule.UnknownMark name) (read_unknown backend attrs it h.by_auto name h.taken h.no_special h.no_row)

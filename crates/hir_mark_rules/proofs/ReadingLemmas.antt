@@ -10,7 +10,7 @@ use Rattle.hir_attrs.specs.Special.{given_to, special_found, special_named, spec
 use Rattle.hir_attrs.specs.declared.attrs.Attrs.{Attrs}
 use Rattle.hir_attrs.specs.declared.names.MarkName.{MarkName}
 use Rattle.hir_attrs.specs.declared.special.kind.SpecialKind.{SpecialKind}
-use Rattle.hir_mark_rules.specs.Counting.{Counts, DeniesFlag, DeniesName, IsRead, IsRow}
+use Rattle.hir_mark_rules.specs.Counting.{Counts, DeniesFlag, DeniesName, IsTaken, IsRow}
 use Rattle.hir_mark_rules.proofs.NameLemmas.{named_mark, named_special, row_is_no_special, mark_absent, special_absent}
 
 -- ---- names and flags that are denied
@@ -53,7 +53,7 @@ module _ (backend : Backend) (attrs : Attrs) (it : DiplomatBackendAttr) where
   read_by_name by_auto name h = ap (λ met. read_met backend attrs it met) h.met ∙ ap (λ path. read_path backend by_auto attrs path it.meta.value) h.named
 
   -- one whose name isn't denied, by whether that is a special method's
-  pub read_by_kind : (by_auto : Bool) (name : List ℕ) → IsRead backend it by_auto name → read_mark backend attrs it ≡ read_special backend by_auto attrs name it.meta.value (special_reading name it.meta.value)
+  pub read_by_kind : (by_auto : Bool) (name : List ℕ) → IsTaken backend it by_auto name → read_mark backend attrs it ≡ read_special backend by_auto attrs name it.meta.value (special_reading name it.meta.value)
   read_by_kind by_auto name h = read_by_name by_auto name h.counts ∙ ap (λ b. cond b (unsupported backend by_auto name) (read_special backend by_auto attrs name it.meta.value (special_reading name it.meta.value))) (undenied_name (checked backend.supports name) h.undenied)
 
   -- a denied one
@@ -61,19 +61,19 @@ module _ (backend : Backend) (attrs : Attrs) (it : DiplomatBackendAttr) where
   read_denied by_auto name h denies = read_by_name by_auto name h ∙ ap (λ said. cond (is_refused said) (unsupported backend by_auto name) (read_special backend by_auto attrs name it.meta.value (special_reading name it.meta.value))) denies
 
   -- that of a special method
-  pub read_as_special : (by_auto : Bool) (name : List ℕ) (kind : SpecialKind) → IsRead backend it by_auto name → name ≡ special_text kind → read_mark backend attrs it ≡ read_special backend by_auto attrs name it.meta.value (special_with kind (given_to kind it.meta.value))
+  pub read_as_special : (by_auto : Bool) (name : List ℕ) (kind : SpecialKind) → IsTaken backend it by_auto name → name ≡ special_text kind → read_mark backend attrs it ≡ read_special backend by_auto attrs name it.meta.value (special_with kind (given_to kind it.meta.value))
   read_as_special by_auto name kind h is = read_by_kind by_auto name h ∙ ap (λ found. read_special backend by_auto attrs name it.meta.value (special_found found it.meta.value)) (ap special_named is ∙ named_special kind)
 
   -- a row of the table, whose flag isn't asked for yet
-  pub read_in_table : (by_auto : Bool) (name : List ℕ) (row : MarkName) → IsRead backend it by_auto name → name ≡ mark_text row → read_mark backend attrs it ≡ read_name backend by_auto attrs name it.meta.value (Some row)
+  pub read_in_table : (by_auto : Bool) (name : List ℕ) (row : MarkName) → IsTaken backend it by_auto name → name ≡ mark_text row → read_mark backend attrs it ≡ read_name backend by_auto attrs name it.meta.value (Some row)
   read_in_table by_auto name row h is = read_by_kind by_auto name h ∙ ap (λ found. read_special backend by_auto attrs name it.meta.value (special_found found it.meta.value)) (ap special_named is ∙ row_is_no_special row) ∙ ap (λ found. read_name backend by_auto attrs name it.meta.value found) (ap mark_named is ∙ named_mark row)
 
-  pub read_flag_off : (by_auto : Bool) (name : List ℕ) (row : MarkName) → IsRead backend it by_auto name → name ≡ mark_text row → DeniesFlag backend row → read_mark backend attrs it ≡ unsupported backend by_auto name
+  pub read_flag_off : (by_auto : Bool) (name : List ℕ) (row : MarkName) → IsTaken backend it by_auto name → name ≡ mark_text row → DeniesFlag backend row → read_mark backend attrs it ≡ unsupported backend by_auto name
   read_flag_off by_auto name row h is denies = read_in_table by_auto name row h is ∙ ap (λ b. cond b (unsupported backend by_auto name) (read_form (mark_form row) by_auto attrs row it.meta.value)) (flag_denies backend row denies)
 
   pub read_as_row : (by_auto : Bool) (name : List ℕ) (row : MarkName) → IsRow backend it by_auto row name → read_mark backend attrs it ≡ read_form (mark_form row) by_auto attrs row it.meta.value
-  read_as_row by_auto name row h = read_in_table by_auto name row h.read h.called ∙ ap (λ b. cond b (unsupported backend by_auto name) (read_form (mark_form row) by_auto attrs row it.meta.value)) (flag_allows backend row h.supported)
+  read_as_row by_auto name row h = read_in_table by_auto name row h.taken h.called ∙ ap (λ b. cond b (unsupported backend by_auto name) (read_form (mark_form row) by_auto attrs row it.meta.value)) (flag_allows backend row h.supported)
 
   -- one whose name nothing has
-  pub read_unknown : (by_auto : Bool) (name : List ℕ) → IsRead backend it by_auto name → ((kind : SpecialKind) → ¬ (name ≡ special_text kind)) → ((row : MarkName) → ¬ (name ≡ mark_text row)) → read_mark backend attrs it ≡ read_name backend by_auto attrs name it.meta.value None
+  pub read_unknown : (by_auto : Bool) (name : List ℕ) → IsTaken backend it by_auto name → ((kind : SpecialKind) → ¬ (name ≡ special_text kind)) → ((row : MarkName) → ¬ (name ≡ mark_text row)) → read_mark backend attrs it ≡ read_name backend by_auto attrs name it.meta.value None
   read_unknown by_auto name h no_special no_row = read_by_kind by_auto name h ∙ ap (λ found. read_special backend by_auto attrs name it.meta.value (special_found found it.meta.value)) (special_absent name no_special) ∙ ap (λ found. read_name backend by_auto attrs name it.meta.value found) (mark_absent name no_row)

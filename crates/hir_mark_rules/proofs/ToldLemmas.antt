@@ -31,7 +31,7 @@ use Rattle.hir_attrs.specs.declared.special.SpecialMethod.{SpecialMethod}
 use Rattle.hir_attrs.specs.declared.special.kind.SpecialKind.{SpecialKind}
 use Rattle.hir_attrs.specs.declared.values.DefaultArgValue.{DefaultArgValue}
 use Rattle.hir_mark_rules.specs.Arguments.{Suits}
-use Rattle.hir_mark_rules.specs.Counting.{Counts, IsRead, IsRow}
+use Rattle.hir_mark_rules.specs.Counting.{Counts, IsTaken, IsRow}
 use Rattle.hir_mark_rules.specs.MarkBreaks.{MarkBreaks}
 use Rattle.hir_mark_rules.specs.rules.AutoIneligible.{IsNeverAuto}
 use Rattle.hir_mark_rules.specs.rules.MarkArgument.{MarkArgument}
@@ -128,23 +128,23 @@ module _ (backend : Backend) (attrs : Attrs) (it : DiplomatBackendAttr) (e : Low
   unsupported_told true name denies h = absurd (in_none e h)
   unsupported_told false name denies h = tell (record { rule = rule.MarkUnsupported; args = name ∷ backend.primary_name ∷ [] }) (MarkBreaks.mark_unsupported name (denies refl)) h
 
-  flag_told : (by_auto : Bool) (row : MarkName) → IsRead backend it by_auto (mark_text row) → (b : Bool) → is_denied backend (mark_flag row) ≡ b → Contains (reading_errors (cond b (unsupported backend by_auto (mark_text row)) (read_form (mark_form row) by_auto attrs row it.meta.value))) e → MarkBreaks backend attrs it e
-  flag_told by_auto row read true denied h = unsupported_told by_auto (mark_text row) (λ off. MarkUnsupported.denied_flag row (subst (λ b. IsRead backend it b (mark_text row)) off read) refl (denied_by_flag backend row denied)) h
-  flag_told by_auto row read false denied h = row_told by_auto row (record { read = read; called = refl; supported = λ lacks. cc (flag_denies backend row lacks, denied) }) h
+  flag_told : (by_auto : Bool) (row : MarkName) → IsTaken backend it by_auto (mark_text row) → (b : Bool) → is_denied backend (mark_flag row) ≡ b → Contains (reading_errors (cond b (unsupported backend by_auto (mark_text row)) (read_form (mark_form row) by_auto attrs row it.meta.value))) e → MarkBreaks backend attrs it e
+  flag_told by_auto row read true denied h = unsupported_told by_auto (mark_text row) (λ off. MarkUnsupported.denied_flag row (subst (λ b. IsTaken backend it b (mark_text row)) off read) refl (denied_by_flag backend row denied)) h
+  flag_told by_auto row read false denied h = row_told by_auto row (record { taken = read; called = refl; supported = λ lacks. cc (flag_denies backend row lacks, denied) }) h
 
-  table_told : (by_auto : Bool) (name : List ℕ) → IsRead backend it by_auto name → ((kind : SpecialKind) → ¬ (name ≡ special_text kind)) → (found : Option MarkName) → mark_named name ≡ found → Contains (reading_errors (read_name backend by_auto attrs name it.meta.value found)) e → MarkBreaks backend attrs it e
-  table_told by_auto name read no_special None found h = tell (about rule.UnknownMark name) (MarkBreaks.unknown_mark name (record { by_auto = by_auto; read = read; no_special = no_special; no_row = no_mark_called name found })) h
-  table_told by_auto name read no_special (Some row) found h = let called = mark_called name row found in flag_told by_auto row (subst (λ n. IsRead backend it by_auto n) called read) (is_denied backend (mark_flag row)) refl (subst (λ n. Contains (reading_errors (read_name backend by_auto attrs n it.meta.value (Some row))) e) called h)
+  table_told : (by_auto : Bool) (name : List ℕ) → IsTaken backend it by_auto name → ((kind : SpecialKind) → ¬ (name ≡ special_text kind)) → (found : Option MarkName) → mark_named name ≡ found → Contains (reading_errors (read_name backend by_auto attrs name it.meta.value found)) e → MarkBreaks backend attrs it e
+  table_told by_auto name read no_special None found h = tell (about rule.UnknownMark name) (MarkBreaks.unknown_mark name (record { by_auto = by_auto; taken = read; no_special = no_special; no_row = no_mark_called name found })) h
+  table_told by_auto name read no_special (Some row) found h = let called = mark_called name row found in flag_told by_auto row (subst (λ n. IsTaken backend it by_auto n) called read) (is_denied backend (mark_flag row)) refl (subst (λ n. Contains (reading_errors (read_name backend by_auto attrs n it.meta.value (Some row))) e) called h)
 
-  second_told : (name : List ℕ) (kind : SpecialKind) (by_auto : Bool) (given : Option (List ℕ)) → IsRead backend it by_auto name → name ≡ special_text kind → given_to kind it.meta.value ≡ Some given → (earlier : Option SpecialMethod) → attrs.special_method ≡ earlier → Contains (reading_errors (specialized earlier name (special_of kind given))) e → MarkBreaks backend attrs it e
+  second_told : (name : List ℕ) (kind : SpecialKind) (by_auto : Bool) (given : Option (List ℕ)) → IsTaken backend it by_auto name → name ≡ special_text kind → given_to kind it.meta.value ≡ Some given → (earlier : Option SpecialMethod) → attrs.special_method ≡ earlier → Contains (reading_errors (specialized earlier name (special_of kind given))) e → MarkBreaks backend attrs it e
   second_told name kind by_auto given read called gives None stands h = absurd (in_none e h)
-  second_told name kind by_auto given read called gives (Some earlier) stands h = tell (about rule.SecondSpecial name) (MarkBreaks.second_special name (record { kind = kind; special = record { by_auto = by_auto; read = read; called = called }; suits = given_suits kind it.meta.value given gives; earlier = earlier; stands = stands })) h
+  second_told name kind by_auto given read called gives (Some earlier) stands h = tell (about rule.SecondSpecial name) (MarkBreaks.second_special name (record { kind = kind; special = record { by_auto = by_auto; taken = read; called = called }; suits = given_suits kind it.meta.value given gives; earlier = earlier; stands = stands })) h
 
-  given_told : (name : List ℕ) (kind : SpecialKind) (by_auto : Bool) → IsRead backend it by_auto name → name ≡ special_text kind → (given : Option (Option (List ℕ))) → given_to kind it.meta.value ≡ given → Contains (reading_errors (read_special backend by_auto attrs name it.meta.value (special_with kind given))) e → MarkBreaks backend attrs it e
-  given_told name kind by_auto read called None gives h = tell (about rule.MarkArgument name) (MarkBreaks.mark_argument name (MarkArgument.of_special kind (record { by_auto = by_auto; read = read; called = called }) (unsuited kind it.meta.value gives))) h
+  given_told : (name : List ℕ) (kind : SpecialKind) (by_auto : Bool) → IsTaken backend it by_auto name → name ≡ special_text kind → (given : Option (Option (List ℕ))) → given_to kind it.meta.value ≡ given → Contains (reading_errors (read_special backend by_auto attrs name it.meta.value (special_with kind given))) e → MarkBreaks backend attrs it e
+  given_told name kind by_auto read called None gives h = tell (about rule.MarkArgument name) (MarkBreaks.mark_argument name (MarkArgument.of_special kind (record { by_auto = by_auto; taken = read; called = called }) (unsuited kind it.meta.value gives))) h
   given_told name kind by_auto read called (Some given) gives h = second_told name kind by_auto given read called gives attrs.special_method refl h
 
-  special_told : (by_auto : Bool) (name : List ℕ) → IsRead backend it by_auto name → (found : Option SpecialKind) → special_named name ≡ found → Contains (reading_errors (read_special backend by_auto attrs name it.meta.value (special_found found it.meta.value))) e → MarkBreaks backend attrs it e
+  special_told : (by_auto : Bool) (name : List ℕ) → IsTaken backend it by_auto name → (found : Option SpecialKind) → special_named name ≡ found → Contains (reading_errors (read_special backend by_auto attrs name it.meta.value (special_found found it.meta.value))) e → MarkBreaks backend attrs it e
   special_told by_auto name read None found h = table_told by_auto name read (no_special_called name found) (mark_named name) refl h
   special_told by_auto name read (Some kind) found h = given_told name kind by_auto read (special_called name kind found) (given_to kind it.meta.value) refl h
 

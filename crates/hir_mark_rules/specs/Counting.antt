@@ -16,7 +16,7 @@ pub record Counts (backend : Backend) (it : DiplomatBackendAttr) (by_auto : Bool
   pub met : condition_met backend it.cfg true ≡ Holds by_auto
   pub named : it.meta.path ≡ name ∷ []
 
--- asked for the name itself, the backend says that it doesn't support it; most names it isn't asked for
+-- asked for the name itself, the backend says that it doesn't support it; of most names it says nothing
 abbrev pub DeniesName : Backend → List ℕ → Type 0
 DeniesName backend name = checked backend.supports name ≡ Some false
 
@@ -25,18 +25,18 @@ abbrev pub DeniesFlag : Backend → MarkName → Type 0
 DeniesFlag backend row = (flag : SupportFlag) × ((mark_flag row ≡ Some flag) × (flag_on backend.supports flag ≡ false))
 
 -- it counts, and the backend doesn't deny its name
-pub record IsRead (backend : Backend) (it : DiplomatBackendAttr) (by_auto : Bool) (name : List ℕ) : Type 0 where
+pub record IsTaken (backend : Backend) (it : DiplomatBackendAttr) (by_auto : Bool) (name : List ℕ) : Type 0 where
   pub counts : Counts backend it by_auto name
   pub undenied : ¬ DeniesName backend name
 
--- it is read as the mark of a special method of that kind
+-- it is taken as the mark of a special method of that kind
 pub record IsSpecial (backend : Backend) (it : DiplomatBackendAttr) (kind : SpecialKind) (name : List ℕ) : Type 0 where
   pub by_auto : Bool
-  pub read : IsRead backend it by_auto name
+  pub taken : IsTaken backend it by_auto name
   pub called : name ≡ special_text kind
 
--- it is read as that row of the table of marks, whose flag isn't off
+-- it is taken as that row of the table of marks, whose flag isn't off
 pub record IsRow (backend : Backend) (it : DiplomatBackendAttr) (by_auto : Bool) (row : MarkName) (name : List ℕ) : Type 0 where
-  pub read : IsRead backend it by_auto name
+  pub taken : IsTaken backend it by_auto name
   pub called : name ≡ mark_text row
   pub supported : ¬ DeniesFlag backend row

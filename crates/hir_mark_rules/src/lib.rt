@@ -17,10 +17,10 @@
 //! # Which marks count
 //!
 //! A mark *counts* where its condition is met, by `auto` or without it, and its path is one segment.
-//! It *is read* where the backend doesn't deny its name besides: as the mark of a special method, or
-//! as a row of the table of marks whose flag isn't off (`specs/Counting`). The third mark of `Map`
-//! doesn't count, since `auto` stands under `not`; the fourth counts, and isn't read, since the flag
-//! of `mut_struct_ref` is off; the other three are read.
+//! It *is taken* where the backend doesn't deny its name besides: as the mark of a special method, or
+//! as a row of the table of marks, whose flag must not be off (`specs/Counting`). The third mark of
+//! `Map` doesn't count, since `auto` stands under `not`. The fourth isn't taken as its row, since the
+//! flag of `mut_struct_ref` is off. The other three are.
 //!
 //! # Which rules they break
 //!

@@ -1,4 +1,4 @@
--- AutoIneligible: `disable`, `manually_disposable` or `rename` counts by `auto`.
+-- AutoIneligible: `disable`, `manually_disposable` or `rename` counts by `auto`, and its argument suits it.
 use Rattle.std.specs.Prelude.{ℕ, List, true}
 use Rattle.bridge_decl.specs.declared.attrs.DiplomatBackendAttr.{DiplomatBackendAttr}
 use Rattle.hir_backends.specs.Backend.{Backend}

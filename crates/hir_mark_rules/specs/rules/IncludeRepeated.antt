@@ -1,4 +1,4 @@
--- IncludeRepeated: a place has its code already.
+-- IncludeRepeated: `custom_extra_code` says well what is included, and where; but the place has its code already.
 use Rattle.std.specs.Prelude.{◌≡◌, ℕ, List, ◌∷◌, ◌++◌, codes, Bool}
 use Rattle.std.specs.List.{Contains}
 use Rattle.bridge_decl.specs.declared.attrs.Assign.{Assign}

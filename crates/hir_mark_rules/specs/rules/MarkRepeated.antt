@@ -1,4 +1,4 @@
--- MarkRepeated: `disable`, `default` or `manually_disposable` stands where it is set already.
+-- MarkRepeated: `disable`, `default` or `manually_disposable` stands, with no argument, where it is set already.
 use Rattle.std.specs.Prelude.{◌≡◌, ℕ, List, Bool, true}
 use Rattle.bridge_decl.specs.declared.attrs.DiplomatBackendAttr.{DiplomatBackendAttr}
 use Rattle.hir_backends.specs.Backend.{Backend}

@@ -1,4 +1,4 @@
--- SecondSpecial: a mark makes a method a special one, which it is already.
+-- SecondSpecial: the mark of a special method, whose argument suits it, stands where one is set already.
 use Rattle.std.specs.Prelude.{◌≡◌, ℕ, List, Some}
 use Rattle.bridge_decl.specs.declared.attrs.DiplomatBackendAttr.{DiplomatBackendAttr}
 use Rattle.hir_backends.specs.Backend.{Backend}
