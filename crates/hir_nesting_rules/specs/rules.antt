@@ -1,0 +1,2 @@
+pub mod StructContainsItself
+pub mod NestingTooDeep
