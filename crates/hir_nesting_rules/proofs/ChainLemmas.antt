@@ -1,5 +1,5 @@
 -- Chains by what holds what, as chains of the nodes of a graph. A node stands for what it is of, and each that is held has a number.
-use Rattle.std.proofs.Common.{◌≡◌, ℕ, suc, ◌+◌, ◌≤◌, List, [], ◌∷◌, length, map, refl, sym, ap, subst, ◌∙◌}
+use Rattle.std.proofs.Common.{◌≡◌, ℕ, suc, ◌+◌, ◌≤◌, List, [], ◌∷◌, length, map, refl, ap, subst, ◌∙◌}
 use Rattle.std.proofs.lemmas.List.{length-map}
 use Rattle.definition_graph.specs.Reaching.{ChainLeads, Edge, Leads, ReachesByEdges}
 use Rattle.definition_graph.specs.Surveying.{IsChain, IsLongestChain}

@@ -7,12 +7,11 @@ use Rattle.bridge_order.specs.declared.catalog.Catalog.{Catalog}
 use Rattle.bridge_order.specs.declared.catalog.Entry.{Entry}
 use Rattle.bridge_order.specs.declared.catalog.Entry.TheVariants as entry
 use Rattle.bridge_rules.specs.Shapes.{box_shape, item_shape, lent_for, level_entry, level_option, named_entry, option_of_box, option_of_item, option_of_reference, out_struct_value, reference_shape, shape_of, shape_of_level, struct_value}
-use Rattle.bridge_rules.specs.declared.shape.FlatSlice.{FlatSlice}
 use Rattle.bridge_rules.specs.declared.shape.Shape.{Shape}
 use Rattle.bridge_rules.specs.declared.shape.Shape.TheVariants as shape
 use Rattle.bridge_rules.specs.declared.shape.Value.{Value}
 use Rattle.bridge_rules.specs.declared.shape.Value.TheVariants as value
-use Rattle.hir_form.specs.Forms.{Generics, boxed_form, elements_form, enum_path, flat_form, opaque_path, opaque_type, option_type, primitive_form, primitive_type, shape_form, slice_type, struct_form, struct_path, struct_type, trait_path, trait_type, value_form}
+use Rattle.hir_form.specs.Forms.{Generics, boxed_form, elements_form, enum_path, flat_form, opaque_path, opaque_type, option_type, primitive_form, shape_form, slice_type, struct_form, struct_path, struct_type, trait_path, trait_type, value_form}
 use Rattle.hir_form.specs.Makers.{Makers, of_fields, of_outputs}
 use Rattle.hir_form.specs.TypeForms.{generics_in, type_form}
 use Rattle.hir_ids.specs.Owners.{owner_of}

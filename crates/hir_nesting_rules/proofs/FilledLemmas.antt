@@ -1,7 +1,7 @@
 -- A declared type with numbers filled in holds the structs that its paths name.
-use Rattle.std.proofs.Common.{◌≡◌, ℕ, List, [], ◌∷◌, map, Option, Some, None, refl, sym, ap, subst, ◌∙◌}
+use Rattle.std.proofs.Common.{◌≡◌, ℕ, List, [], map, Option, Some, None, refl, sym, ap, subst, ◌∙◌}
 use Rattle.bridge_ast.specs.declared.place.ItemPlace.{ItemPlace}
-use Rattle.bridge_decl.specs.declared.types.TypeName.{TypeName, map-TypeName, roll-TypeName}
+use Rattle.bridge_decl.specs.declared.types.TypeName.{TypeName, map-TypeName}
 use Rattle.bridge_decl.specs.declared.types.TypeName.TheOpen.{TypeName-F}
 use Rattle.bridge_decl.specs.declared.types.TypeName.TheFolds.{fold-roll-TypeName, ind-TypeName}
 use Rattle.bridge_order.specs.declared.catalog.Catalog.{Catalog}

@@ -1,5 +1,5 @@
 -- The ids of the structs that types hold, as a catalog has them.
-use Rattle.std.proofs.Common.{ℕ, List, [], ◌∷◌, Option, Some, None}
+use Rattle.std.proofs.Common.{List, [], ◌∷◌, Option, Some, None}
 use Rattle.bridge_ast.specs.declared.place.ItemPlace.{ItemPlace}
 use Rattle.bridge_order.specs.Catalog.{entry_at}
 use Rattle.bridge_order.specs.declared.catalog.Catalog.{Catalog}

@@ -1,5 +1,5 @@
 -- What is told of how lowered structs nest is what their declarations break.
-use Rattle.std.proofs.Common.{◌≡◌, ◌↔◌, inl, inr, ℕ, ◌+◌, ◌<◌, List, [], ◌∷◌, ◌++◌, drop, length, take, Option, Some, None, get_or, refl, sym, ap, subst, ◌∙◌, arith}
+use Rattle.std.proofs.Common.{◌≡◌, inl, inr, ℕ, ◌+◌, ◌<◌, List, [], ◌∷◌, ◌++◌, drop, length, take, Option, Some, None, get_or, refl, sym, ap, subst, ◌∙◌, arith}
 use Rattle.std.specs.Prelude.{slice_get}
 use Rattle.std.specs.List.{Contains}
 use Rattle.std.proofs.lemmas.List.Elements.{Contains-append_cases, Contains-append_left, Contains-append_right}
@@ -12,7 +12,6 @@ use Rattle.bridge_decl.specs.declared.structs.Struct.{Struct}
 use Rattle.bridge_places.specs.Entries.{IsCatalog}
 use Rattle.bridge_telling.specs.Telling.{TellsExactly}
 use Rattle.definition_graph.specs.Reaching.{Leads}
-use Rattle.definition_graph.specs.Surveying.{IsLongestChain}
 use Rattle.definition_graph.proofs.Totalling.{longest_no_cycle}
 use Rattle.hir_lowering.specs.Interface.{AreNamed, Interface}
 use Rattle.hir_lowering.specs.Lowered.{AreAllLowered}

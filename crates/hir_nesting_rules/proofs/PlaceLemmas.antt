@@ -1,7 +1,7 @@
 -- What is made of the struct at a place contains what the struct holds.
-use Rattle.std.proofs.Common.{◌≡◌, ℕ, ◌<◌, List, [], ◌∷◌, length, map, Bool, true, false, Option, Some, None, if◌then◌else◌, refl, sym, ap, subst, ◌∙◌}
+use Rattle.std.proofs.Common.{◌≡◌, ◌<◌, List, [], length, map, Bool, true, false, Option, Some, None, if◌then◌else◌, refl, sym, ap, subst}
 use Rattle.std.specs.Prelude.{IfSome, option_and_then, slice_get}
-use Rattle.std.specs.List.{Contains, flat_map}
+use Rattle.std.specs.List.{Contains}
 use Rattle.std.proofs.lemmas.Option.{none-some, same_Some, slice_get_within}
 use Rattle.bridge_ast.specs.Types.{item_of}
 use Rattle.bridge_ast.specs.declared.place.ItemPlace.{ItemPlace}
@@ -11,7 +11,6 @@ use Rattle.bridge_decl.specs.declared.modules.Module.{Module}
 use Rattle.bridge_decl.specs.declared.structs.Field.{Field}
 use Rattle.bridge_decl.specs.declared.structs.Struct.{Struct}
 use Rattle.bridge_places.specs.Entries.{IsCatalog}
-use Rattle.bridge_telling.specs.Telling.{TellsExactly}
 use Rattle.bridge_telling.proofs.ExactLemmas.{exactly_each, in_none}
 use Rattle.bridge_telling.proofs.GivenLemmas.{in_map, mapped}
 use Rattle.hir_ids.specs.declared.ids.TypeId.{TypeId}
@@ -24,7 +23,7 @@ use Rattle.hir_mentions.specs.Containing.{contained_in}
 use Rattle.hir_mentions.specs.Mentions.{where_any}
 use Rattle.hir_modules.specs.ModuleMarks.{module_marks}
 use Rattle.hir_types.specs.Paths.{returnable_id}
-use Rattle.hir_nesting_rules.specs.Holding.{HoldsStruct, IsEnabledStruct, structs_held}
+use Rattle.hir_nesting_rules.specs.Holding.{HoldsStruct, structs_held}
 use Rattle.hir_nesting_rules.proofs.CatalogLemmas.{IsStruct, entered, held_structs}
 use Rattle.hir_nesting_rules.proofs.FieldLemmas.{AreEntered, field_ids, out_struct_contains, struct_contains, struct_ids}
 use Rattle.hir_nesting_rules.proofs.HeldIds.{id_at}
@@ -123,8 +122,7 @@ module _ (it : Interface) where
   in_fields place owner declared true disabled is id h = absurd (in_none id h)
   in_fields place owner declared false disabled is id h =
       let told = (exactly_each (ids_of_field place) (λ f e. Contains (ids_of_field place f) e) (λ f e. (λ k. k, λ k. k)) declared.fields id).0 h in
-      let from = mapped (id_at it.catalog) (structs_held (it.names place.«module») told.0.ty) id told.1.1 in
-      (
+      let from = mapped (id_at it.catalog) (structs_held (it.names place.«module») told.0.ty) id told.1.1 in (
         from.0,
         (
           record { owner = owner; declared = declared; is = record { stands = is; enabled = disabled }; field = told.0; has = told.1.0; holds = from.1.0 },

@@ -1,5 +1,5 @@
 -- What is told of how structs nest: at each place of which a fault is noted, that fault.
-use Rattle.std.proofs.Common.{◌≡◌, ◌↔◌, ℕ, ◌+◌, List, [], ◌∷◌, Option, Some, None, refl, sym, ap, subst, ◌∙◌, arith}
+use Rattle.std.proofs.Common.{◌≡◌, ℕ, ◌+◌, List, [], ◌∷◌, Option, Some, None, refl, sym, ap, subst, ◌∙◌, arith}
 use Rattle.std.specs.Prelude.{slice_get}
 use Rattle.std.specs.List.{Contains, enumerate_from}
 use Rattle.std.proofs.lemmas.Option.{none-some, same_Some}
@@ -81,8 +81,7 @@ module _ (modules : List Module) (faults : List (Option NestingFault)) where
     up : ToldAmong modules faults places e → (p : ℕ × ItemPlace) × (Contains (enumerate_from 0 places) p × ToldAt p e)
     up t =
         let k : ℕ = t.number in
-        let same : 0 + k ≡ k = omega arith in
-        (
+        let same : 0 + k ≡ k = omega arith in (
           (0 + k, t.place),
           (
             place_numbered 0 places k t.place t.at,

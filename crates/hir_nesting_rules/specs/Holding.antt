@@ -1,6 +1,6 @@
 -- Which structs declared structs hold: by value, in options or by reference. In the example of the crate's head `Pair` holds `Line`
 -- and `Chain`. The elements of a slice aren't held, and a disabled struct holds nothing.
-use Rattle.std.specs.Prelude.{◌≡◌, ℕ, List, [], ◌∷◌, false, Option, Some, None}
+use Rattle.std.specs.Prelude.{◌≡◌, List, [], ◌∷◌, false, Option, Some, None}
 use Rattle.std.specs.List.{Contains}
 use Rattle.bridge_ast.specs.declared.place.ItemPlace.{ItemPlace}
 use Rattle.bridge_decl.specs.declared.modules.Item.{Item}
