@@ -16,8 +16,8 @@ ghost use Rattle.hir_nesting_rules.specs.NestingBreaks.{NestingBreaks};
 /// struct at its place breaks, and each struct that breaks a rule has its report.
 pub fn nesting_is_told_exactly()
     ensures { (it : Interface) (d : LoweredDefinitions) (faults : List (Option NestingFault))
-        → IsCatalog it.modules it.catalog → AreNamed it.modules it.names → AreAllLowered it d
-        → AreNestingFaults (lowered_containment d) faults
+        → IsCatalog it.modules it.catalog → AreNamed it.modules it.names
+        → AreAllLowered it d → AreNestingFaults (lowered_containment d) faults
         → TellsExactly (nesting_reports it.modules (length d.out_structs.items) faults)
         (NestingBreaks it) }
 {}
