@@ -2,7 +2,7 @@
 
 ghost use Rattle.std.specs.Prelude.{◌≡◌, ◌↔◌, None};
 ghost use Rattle.std.specs.List.{Contains};
-ghost use Rattle.bridge_decl.specs.declared.attrs.Attrs.{Attrs as DeclaredAttrs};
+ghost use Rattle.bridge_decl.specs.declared.attrs.Attrs.{Attrs as Declared};
 ghost use Rattle.bridge_decl.specs.declared.attrs.Lit.{Lit};
 ghost use Rattle.bridge_decl.specs.declared.attrs.MetaValue.{MetaValue};
 ghost use Rattle.bridge_decl.specs.declared.docs.Docs.{Docs as DeclaredDocs};
@@ -20,7 +20,7 @@ ghost use Rattle.hir_mark_rules.specs.rules.BadInclude.{IsBadInclude};
 /// What is told of the marks of a declaration is what breaks a rule: each mark that does, read after
 /// those before it, and nothing else.
 pub fn marks_are_told_by_their_rules()
-    ensures { (backend : Backend) (declared : DeclaredAttrs) (parent : Attrs) (error : LoweringError)
+    ensures { (backend : Backend) (declared : Declared) (parent : Attrs) (error : LoweringError)
         → Contains (marks_errors backend declared parent) error
         ↔ MarksBreak backend declared parent error }
 {}
@@ -34,6 +34,6 @@ pub fn documents_are_told_by_their_rules()
 /// An argument of `custom_extra_code` includes nothing exactly where it is a bad one, and a literal
 /// gives no default value exactly where it is.
 pub fn what_is_bad_gives_nothing()
-    ensures includes { (value : MetaValue) → (include_of value ≡ None) ↔ IsBadInclude value }
-    ensures defaults { (literal : Lit) → (default_of literal ≡ None) ↔ IsBadDefault literal }
+    ensures includes { (it : MetaValue) → (include_of it ≡ None) ↔ IsBadInclude it }
+    ensures defaults { (it : Lit) → (default_of it ≡ None) ↔ IsBadDefault it }
 {}
