@@ -1,0 +1,11 @@
+pub mod PathLemmas
+pub mod LeftOutLemmas
+pub mod CountLemmas
+pub mod NumberLemmas
+pub mod StageLemmas
+pub mod TypeLemmas
+pub mod AppendLemmas
+pub mod HeadLemmas
+pub mod CallableLemmas
+pub mod ItemLemmas
+pub mod WalkLemmas

@@ -1,0 +1,8 @@
+pub mod rules
+pub mod LeftOut
+pub mod Paths
+pub mod Types
+pub mod Heads
+pub mod Callables
+pub mod Items
+pub mod Broken

@@ -1,0 +1,10 @@
+pub mod BadIdent
+pub mod UnresolvedPath
+pub mod LifetimeUnknown
+pub mod LifetimeArity
+pub mod SelfMismatch
+pub mod AnonymousInDefinition
+pub mod ElisionNoSource
+pub mod ElisionAmbiguous
+pub mod TooManyLifetimes
+pub mod ZeroSizeMethods
