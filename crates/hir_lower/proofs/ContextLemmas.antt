@@ -46,12 +46,13 @@ use Rattle.hir_mentions.specs.Definitions.{usage_mentions}
 use Rattle.hir_mentions.specs.Mentions.{where_any}
 use Rattle.hir_nesting.specs.Faults.{AllNestWell}
 use Rattle.hir_nesting.specs.Structs.{containment, each_contained}
+use Rattle.hir_nesting_rules.specs.LoweredContainment.{lowered_containment}
 use Rattle.hir_number.specs.Naming.{IsNaming, Naming}
 use Rattle.hir_traits.specs.Traits.{trait_form}
 use Rattle.hir_types.specs.Paths.{returnable_id}
 use Rattle.hir_usage_notes.specs.Notes.{HaveUsages, each_used, enum_used, opaque_used, struct_used, usages_among}
 use Rattle.hir_usage_notes.specs.declared.definitions.LoweredDefinitions.{LoweredDefinitions}
-use Rattle.hir_fitting_forms.specs.DeclaredCensus.{declared_census, lifetimes_of_kind}
+use Rattle.hir_fitting_forms.specs.DeclaredCensus.{declared_census}
 use Rattle.hir_fitting_forms.specs.DeclaredDefinitions.{EachFits, HaveDeclared}
 use Rattle.hir_fitting_forms.specs.Naming.{NamesFit}
 use Rattle.hir_fitting_forms.specs.Uses.{UsagesFit}
@@ -63,11 +64,10 @@ use Rattle.hir_lowering.specs.Walks.{interface_of}
 use Rattle.hir_lower.specs.Acceptance.{AnswersAll, AreAccepted, HoldsByCatalog}
 use Rattle.hir_lower.specs.Contexts.{AnswersContext, ListsAllItems, ListsItems, StandForItems}
 use Rattle.hir_lower.specs.Placing.{path_of_place}
-use Rattle.hir_lower.specs.inside.Parts.{AreParts, StandAtPlaces, path_of_number}
-use Rattle.hir_lower.specs.Refusals.{lowered_containment}
+use Rattle.hir_lower.specs.inside.Parts.{AreParts, StandAtPlaces}
 use Rattle.hir_lower.specs.declared.fault.LowerFault.{LowerFault}
 use Rattle.hir_lower.specs.declared.fault.LowerFault.TheVariants as fault
-use Rattle.hir_lower.specs.inside.Contexts.{HasUnfit, IsContextOf, PlacedAs, UsedAs}
+use Rattle.hir_lower.specs.inside.Contexts.{IsContextOf, UsedAs}
 use Rattle.hir_lower.proofs.ItemLemmas.{each_counted, each_good, enum_fits, function_fits, opaque_counted, opaque_fits, out_struct_counted, out_struct_fits, struct_counted, struct_fits, trait_counted, trait_fits}
 use Rattle.hir_lower.proofs.NestingLemmas.{all_length}
 use Rattle.hir_lower.proofs.UseLemmas.{AreUseLaws, EachLoweredFits, notes_fit, used_all, used_long, used_same}

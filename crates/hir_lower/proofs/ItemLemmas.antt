@@ -1,5 +1,5 @@
 -- Each definition of an item fits, and has as many lifetimes as the item declares.
-use Rattle.std.proofs.Common.{◌≡◌, ◌<◌, ℕ, List, [], ◌∷◌, ◌++◌, Option, Some, None, length, map, refl, subst, sym, ap, ◌∙◌}
+use Rattle.std.proofs.Common.{◌≡◌, ◌<◌, ℕ, List, Some, length, map, refl, subst}
 use Rattle.std.specs.Prelude.{IfSome}
 use Rattle.std.specs.List.{All}
 use Rattle.bridge_ast.specs.Types.{item_of}
@@ -8,27 +8,16 @@ use Rattle.bridge_decl.specs.declared.enums.Enum.{Enum}
 use Rattle.bridge_decl.specs.declared.functions.Function.{Function}
 use Rattle.bridge_decl.specs.declared.modules.Item.{Item}
 use Rattle.bridge_decl.specs.declared.modules.Item.TheVariants as item
-use Rattle.bridge_decl.specs.declared.modules.Module.{Module}
 use Rattle.bridge_decl.specs.declared.structs.OpaqueType.{OpaqueType}
 use Rattle.bridge_decl.specs.declared.structs.Struct.{Struct}
 use Rattle.bridge_decl.specs.declared.traits.Trait.{Trait}
-use Rattle.bridge_order.specs.declared.catalog.Catalog.{Catalog}
-use Rattle.bridge_places.specs.Entries.{IsCatalog}
 use Rattle.bridge_places.specs.Places.{places_of}
 use Rattle.bridge_places.specs.declared.kinds.Kind.{Kind}
-use Rattle.bridge_places.specs.declared.kinds.Kind.TheVariants as kind
 use Rattle.hir_attrs.specs.Reading.{marks_of}
 use Rattle.hir_attrs.specs.declared.attrs.Attrs.{Attrs}
-use Rattle.hir_backends.specs.Backend.{Backend}
-use Rattle.hir_definitions.specs.declared.definitions.EnumDef.{EnumDef}
-use Rattle.hir_definitions.specs.declared.definitions.OpaqueDef.{OpaqueDef}
-use Rattle.hir_definitions.specs.declared.definitions.TraitDef.{TraitDef}
-use Rattle.hir_definitions.specs.declared.methods.Method.{Method}
-use Rattle.hir_context.specs.Lookups.{InputStruct, OutputStruct}
 use Rattle.hir_fields.specs.Fields.{fields_form, out_fields_form}
 use Rattle.hir_fitting.specs.Parts.{DefinitionFits, parts_of_enum, parts_of_function, parts_of_opaque, parts_of_struct, parts_of_trait}
 use Rattle.hir_fitting.specs.declared.census.Census.{Census}
-use Rattle.hir_form.specs.ParamForms.{all_given}
 use Rattle.hir_items.specs.Enums.{enum_item_form}
 use Rattle.hir_items.specs.FreeFunctions.{function_item_form}
 use Rattle.hir_items.specs.Inheriting.{item_marks, item_start}
@@ -39,14 +28,13 @@ use Rattle.hir_items.specs.Structs.{out_struct_item_form, struct_item_form, stru
 use Rattle.hir_items.specs.TypeMethods.{type_method_form}
 use Rattle.hir_mentions.specs.Callbacks.{field_mentions, output_mentions}
 use Rattle.hir_modules.specs.ModuleMarks.{module_marks}
-use Rattle.hir_number.specs.Naming.{IsNaming, Naming}
 use Rattle.hir_traits.specs.Traits.{trait_form, trait_methods_form, trait_with}
-use Rattle.hir_fitting_forms.specs.DeclaredCensus.{declared_census, lifetimes_found, lifetimes_of_kind}
+use Rattle.hir_fitting_forms.specs.DeclaredCensus.{lifetimes_found, lifetimes_of_kind}
 use Rattle.hir_fitting_forms.specs.Naming.{NamesFit}
 use Rattle.hir_fitting_forms.proofs.Lists.{given_all}
-use Rattle.hir_lowering.specs.Interface.{AreNamed, Interface, setting_in}
+use Rattle.hir_lowering.specs.Interface.{Interface, setting_in}
 use Rattle.hir_lowering.specs.Kinds.{ItemMaking, enum_made, function_made, opaque_made, out_struct_made, struct_made, trait_made}
-use Rattle.hir_lowering.specs.Placing.{each_form, form_at, form_of}
+use Rattle.hir_lowering.specs.Placing.{each_form, form_at}
 use Rattle.hir_lower.proofs.MadeLemmas.{counted, made_in_first, made_in_second, made_of_both, made_of_one, made_there}
 
 -- what is made of all items of a kind is good, where what is made of each is

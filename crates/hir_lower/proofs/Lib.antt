@@ -5,3 +5,4 @@ mod MadeLemmas
 mod ItemLemmas
 mod UseLemmas
 mod ContextLemmas
+mod BrokenLemmas

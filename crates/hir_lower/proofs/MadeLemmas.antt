@@ -1,5 +1,5 @@
 -- What is made of items and of lists of them.
-use Rattle.std.proofs.Common.{◌≡◌, ◌<◌, ◌+◌, ℕ, List, [], ◌∷◌, ◌++◌, Bool, true, false, Option, Some, None, if◌then◌else◌, ap, length, map, refl, subst, sym, ◌∙◌}
+use Rattle.std.proofs.Common.{◌≡◌, ◌<◌, ℕ, List, [], ◌∷◌, ◌++◌, Bool, true, false, Option, Some, None, if◌then◌else◌, ap, length, map, refl, sym, ◌∙◌}
 use Rattle.std.specs.Prelude.{IfSome, option_and_then, option_map, slice_get}
 use Rattle.std.specs.List.{All, flat_map}
 use Rattle.std.proofs.lemmas.List.Elements.{All-append, All-cons, All-head, All-nil, All-tail}
@@ -12,7 +12,7 @@ use Rattle.hir_form.specs.ParamForms.{all_given}
 use Rattle.hir_form.specs.ReturnForms.{both_given}
 use Rattle.hir_lowering.specs.Interface.{Interface}
 use Rattle.hir_lowering.specs.Kinds.{ItemMaking}
-use Rattle.hir_lowering.specs.Placing.{beside_module, form_at, form_of, found_at}
+use Rattle.hir_lowering.specs.Placing.{beside_module, form_at, form_of}
 
 -- ---- what is made where there is anything
 

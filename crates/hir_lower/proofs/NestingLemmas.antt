@@ -1,5 +1,5 @@
 -- Where nothing is told of how structs nest, they nest well.
-use Rattle.std.proofs.Common.{◌≡◌, ◌<◌, ◌≤◌, ◌+◌, ◌-◌, ℕ, zero, suc, List, [], ◌∷◌, ◌++◌, Option, Some, None, ap, arith, get_or, inl, inr, length, map, refl, subst, sym, take, drop, ◌∙◌}
+use Rattle.std.proofs.Common.{◌≡◌, ◌<◌, ◌+◌, ◌-◌, ℕ, zero, suc, List, [], ◌∷◌, ◌++◌, Option, Some, None, ap, arith, get_or, inl, inr, length, map, refl, subst, sym, take, drop, ◌∙◌}
 use Rattle.std.specs.Prelude.{Contains, option_and_then, option_map, slice_get, unwrap_or}
 use Rattle.std.specs.List.{enumerate_from, flat_map}
 use Rattle.std.proofs.lemmas.Bool.{cases_lt}
@@ -15,21 +15,17 @@ use Rattle.bridge_places.specs.Places.{places_of}
 use Rattle.bridge_places.specs.declared.kinds.Kind.{Kind}
 use Rattle.bridge_places.specs.declared.kinds.Kind.TheVariants as kind
 use Rattle.hir_form.specs.ParamForms.{all_given}
-use Rattle.hir_ids.specs.declared.ids.TypeId.{TypeId}
 use Rattle.hir_ids.specs.declared.ids.TypeId.TheVariants as type
 use Rattle.hir_mentions.specs.Mentions.{where_any}
-use Rattle.hir_nesting.specs.Faults.{AllNestWell, AreNestingFaults}
 use Rattle.hir_nesting.specs.Structs.{each_contained, struct_numbers}
 use Rattle.hir_nesting.specs.declared.fault.NestingFault.{NestingFault}
+use Rattle.hir_nesting_rules.specs.LoweredContainment.{lowered_containment}
 use Rattle.hir_number.proofs.ElisionLemmas.{none_of}
 use Rattle.hir_types.specs.Paths.{returnable_id}
 use Rattle.hir_usage_notes.specs.declared.definitions.LoweredDefinitions.{LoweredDefinitions}
-use Rattle.hir_lowering.specs.Interface.{Interface}
 use Rattle.hir_lowering.specs.Kinds.{out_struct_made, struct_made}
-use Rattle.hir_lowering.specs.Lowered.{AreAllLowered}
 use Rattle.hir_lowering.specs.Nesting.{each_nesting_report, nesting_reports_at, nesting_reports_of}
 use Rattle.hir_lowering.specs.Placing.{beside_module, form_at, found_at}
-use Rattle.hir_lower.specs.Refusals.{TellsNestingOf, lowered_containment}
 use Rattle.hir_lower.proofs.TellingLemmas.{NestingUntold}
 
 -- ---- lists

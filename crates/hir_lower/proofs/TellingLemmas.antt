@@ -1,12 +1,11 @@
 -- What is told of declarations, and what they come to by it.
-use Rattle.std.proofs.Common.{◌≡◌, ◌≢◌, ◌<◌, ◌≤◌, ◌+◌, ◌-◌, ℕ, zero, suc, List, [], ◌∷◌, ◌++◌, Option, Some, None, ap, append_assoc, arith, get_or, length, map, refl, subst, sym, take, drop, ◌∙◌}
-use Rattle.std.specs.Prelude.{Contains, Ok, Err, OnOk, Result, slice_get, option_map, option_and_then}
-use Rattle.std.specs.List.{enumerate_from, flat_map}
-use Rattle.bridge_ast.specs.declared.place.ItemPlace.{ItemPlace}
+use Rattle.std.proofs.Common.{◌≡◌, ◌≢◌, ℕ, List, [], ◌∷◌, ◌++◌, ap, refl, subst, sym, ◌∙◌}
+use Rattle.std.specs.Prelude.{Ok, Err, Result}
 use Rattle.bridge_decl.specs.declared.modules.Module.{Module}
 use Rattle.hir_backends.specs.Backend.{Backend}
 use Rattle.hir_config.specs.declared.config.LoweringConfig.{LoweringConfig}
-use Rattle.hir_nesting.specs.Faults.{AllNestWell, AreNestingFaults}
+use Rattle.hir_nesting.specs.Faults.{AllNestWell}
+use Rattle.hir_nesting_rules.specs.LoweredContainment.{lowered_containment}
 use Rattle.hir_number.specs.Naming.{Naming}
 use Rattle.hir_reports.specs.Store.{Held}
 use Rattle.hir_reports.specs.declared.report.LoweringReport.{LoweringReport}
@@ -17,10 +16,10 @@ use Rattle.hir_lowering.specs.Walks.{LowersTo, interface_of}
 use Rattle.hir_modules.specs.ModuleMarks.{all_module_reports}
 use Rattle.hir_number.proofs.ElisionLemmas.{none_of}
 use Rattle.hir_lower.specs.Acceptance.{AnswersAll, AreAccepted, HoldsByCatalog}
-use Rattle.hir_lower.specs.Refusals.{IsRefusal, TellsNestingOf, lowered_containment}
+use Rattle.hir_lower.specs.Refusals.{IsRefusal, TellsNestingOf}
 use Rattle.hir_lower.specs.declared.fault.LowerFault.{LowerFault}
 use Rattle.hir_lower.specs.declared.fault.LowerFault.TheVariants as fault
-use Rattle.hir_lower.specs.inside.Telling.{GivesUnlessTold, IsWholeTelling, TellsAll, TellsNestingAfter}
+use Rattle.hir_lower.specs.inside.Telling.{GivesUnlessTold, IsWholeTelling, TellsNestingAfter}
 
 some_there : {A : Type 0} (x : A) (xs : List A) → x ∷ xs ≢ []
 some_there x xs = λ none. cc
@@ -65,7 +64,7 @@ accepted : (it : Interface) (d : LoweredDefinitions) → AllMade → NestingUnto
 accepted it d made nested (IsWholeTelling.Items some is) = absurd (some refl)
 accepted it d made nested (IsWholeTelling.Structs none are tells) =
     let all = made it d (items_untold it none) are in
-    record { untold = none; all = all; nested = nested it refl all tells }
+    record { untold = none; all = all; quiet = tells; nested = nested it refl all tells }
 
 refused : (it : Interface) (d : LoweredDefinitions) (told : List LoweringReport) → AllMade → told ≢ [] → IsWholeTelling it d told → IsRefusal it told
 refused it d told made some (IsWholeTelling.Items _ is) = IsRefusal.OfItems some is

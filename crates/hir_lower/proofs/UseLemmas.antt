@@ -1,5 +1,5 @@
 -- Definitions with what is noted of their use are as they were, and fit where what is noted does.
-use Rattle.std.proofs.Common.{◌≡◌, ℕ, suc, List, [], ◌∷◌, ◌++◌, ap, length, map, refl, sym, ◌∙◌}
+use Rattle.std.proofs.Common.{◌≡◌, ℕ, suc, List, [], ◌∷◌, ◌++◌, ap, length, map, refl, ◌∙◌}
 use Rattle.std.specs.List.{All, flat_map}
 use Rattle.std.proofs.lemmas.List.Elements.{All-append, All-cons, All-head, All-nil, All-tail}
 use Rattle.hir_context.specs.Lookups.{InputStruct, OutputStruct}
@@ -13,16 +13,14 @@ use Rattle.hir_fitting.specs.Parts.{DefinitionFits, Part, PartFits, fields_part,
 use Rattle.hir_fitting.specs.declared.census.Census.{Census}
 use Rattle.hir_mentions.specs.Callbacks.{field_mentions, output_mentions}
 use Rattle.hir_mentions.specs.Definitions.{special_mentions, trait_mentions, usage_mentions}
-use Rattle.hir_mentions.specs.Mentions.{Mentioned}
-use Rattle.hir_types.specs.declared.types.HirType.{HirType}
 use Rattle.hir_usage.specs.Callbacks.{method_usages, output_usages}
 use Rattle.hir_usage.specs.Definitions.{fields_usages, trait_usages}
 use Rattle.hir_usage.specs.Tables.{Usages, noted, unused_of}
 use Rattle.hir_usage.specs.Uses.{Used}
 use Rattle.hir_usage_notes.specs.AllUses.{all_usages, field_type_usages, methods_usages, struct_usages}
-use Rattle.hir_usage_notes.specs.Notes.{each_used, enum_used, opaque_used, struct_used, usages_among}
+use Rattle.hir_usage_notes.specs.Notes.{each_used, usages_among}
 use Rattle.hir_usage_notes.specs.declared.definitions.LoweredDefinitions.{LoweredDefinitions}
-use Rattle.hir_fitting_forms.specs.Uses.{InfosFit, UsagesFit, UseFits}
+use Rattle.hir_fitting_forms.specs.Uses.{UsagesFit, UseFits}
 use Rattle.hir_lower.proofs.MadeLemmas.{all_flat, all_front}
 
 -- ---- what is noted changes nothing else

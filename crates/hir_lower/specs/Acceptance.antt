@@ -6,12 +6,13 @@ use Rattle.bridge_places.specs.Entries.{IsCatalog}
 use Rattle.hir_backends.specs.Backend.{Backend}
 use Rattle.hir_config.specs.declared.config.LoweringConfig.{LoweringConfig}
 use Rattle.hir_nesting.specs.Faults.{AllNestWell}
+use Rattle.hir_nesting_rules.specs.LoweredContainment.{lowered_containment}
 use Rattle.hir_number.specs.Naming.{Naming}
 use Rattle.hir_usage_notes.specs.declared.definitions.LoweredDefinitions.{LoweredDefinitions}
 use Rattle.hir_lowering.specs.Interface.{Interface}
 use Rattle.hir_lowering.specs.Lowered.{AreAllLowered, lowering_reports}
 use Rattle.hir_lowering.specs.Walks.{interface_of}
-use Rattle.hir_lower.specs.Refusals.{IsRefusal, lowered_containment}
+use Rattle.hir_lower.specs.Refusals.{IsRefusal, TellsNestingOf}
 use Rattle.hir_lower.specs.declared.fault.LowerFault.{LowerFault}
 use Rattle.hir_lower.specs.declared.fault.LowerFault.TheVariants as fault
 
@@ -21,10 +22,11 @@ pub record HoldsByCatalog (modules : List Module) (backend : Backend) (config : 
   pub is : IsCatalog modules catalog
   pub holds : P (interface_of modules backend config names catalog)
 
--- nothing is wrong in declarations, and these are the definitions of all their items
+-- nothing is told of declarations, these are the definitions of all their items, and nothing is told of how structs nest, which nest well
 pub record AreAccepted (it : Interface) (d : LoweredDefinitions) : Type 0 where
   pub untold : lowering_reports it ≡ []
   pub all : AreAllLowered it d
+  pub quiet : TellsNestingOf it.modules d []
   pub nested : AllNestWell (lowered_containment d)
 
 -- the definitions of all items, or all that is wrong, or want of memory

@@ -1,20 +1,14 @@
 -- What is told of declarations that are refused.
-use Rattle.std.specs.Prelude.{◌≡◌, ◌≢◌, ℕ, List, [], Option, length}
+use Rattle.std.specs.Prelude.{◌≡◌, ◌≢◌, List, [], Option, length}
 use Rattle.bridge_decl.specs.declared.modules.Module.{Module}
-use Rattle.hir_ids.specs.declared.ids.TypeId.TheVariants as type
-use Rattle.hir_types.specs.Paths.{returnable_id}
 use Rattle.hir_nesting.specs.Faults.{AreNestingFaults}
-use Rattle.hir_nesting.specs.Structs.{containment, each_contained}
 use Rattle.hir_nesting.specs.declared.fault.NestingFault.{NestingFault}
+use Rattle.hir_nesting_rules.specs.LoweredContainment.{lowered_containment}
 use Rattle.hir_reports.specs.declared.report.LoweringReport.{LoweringReport}
 use Rattle.hir_usage_notes.specs.declared.definitions.LoweredDefinitions.{LoweredDefinitions}
 use Rattle.hir_lowering.specs.Interface.{Interface}
 use Rattle.hir_lowering.specs.Lowered.{AreAllLowered, lowering_reports}
 use Rattle.hir_lowering.specs.Nesting.{nesting_reports}
-
--- which structs contain which, out-structs before the others
-abbrev pub lowered_containment : LoweredDefinitions → List (List ℕ)
-lowered_containment d = containment (each_contained returnable_id d.out_structs.items) (each_contained (λ path. type.Struct path.tcx_id) d.structs.items)
 
 -- what is told of how the structs of definitions nest: at each that contains itself or nests too deep, that it does
 pub record TellsNestingOf (modules : List Module) (d : LoweredDefinitions) (reports : List LoweringReport) : Type 0 where

@@ -1,6 +1,6 @@
 //! The context of all declarations.
 
-ghost use Rattle.std.specs.Prelude.{◌≡◌, ℕ, List, Result};
+ghost use Rattle.std.specs.Prelude.{◌≡◌, List, Result};
 ghost use Rattle.bridge_ast.specs.Sound.{AreSound};
 ghost use Rattle.bridge_decl.specs.declared.modules.Module.{Module};
 ghost use Rattle.bridge_places.specs.Entries.{IsCatalog};
@@ -9,11 +9,9 @@ ghost use Rattle.bridge_places.specs.declared.kinds.Kind.{Kind};
 ghost use Rattle.hir_backends.specs.Backend.{Backend};
 ghost use Rattle.hir_config.specs.declared.config.LoweringConfig.{LoweringConfig};
 ghost use Rattle.hir_context.specs.Listing.{AreDefinitions};
-ghost use Rattle.hir_lower.specs.Contexts.{AnswersContext};
+ghost use Rattle.hir_lower.specs.Answers.{AnswersDeclarations};
 ghost use Rattle.hir_lower.specs.inside.Contexts.{IsContextOf, PlacedAs, UsedAs};
 ghost use Rattle.hir_lower.specs.declared.fault.LowerFault.{LowerFault};
-ghost use Rattle.hir_lowering.specs.Interface.{AreNamed};
-ghost use Rattle.hir_number.specs.Naming.{Naming};
 
 use crate::fault::LowerFault;
 use crate::laws::what_is_accepted_fits;
@@ -24,6 +22,7 @@ use bridge_places::ItemOrder;
 use hir_backends::AttributeValidator;
 use hir_config::LoweringConfig;
 use hir_context::{ContextFault, ContextParts, TypeContext};
+use hir_naming::every_path_has_a_meaning;
 use hir_usage_notes::{LoweredDefinitions, note_usages};
 use std::alloc::Global;
 
@@ -83,10 +82,10 @@ fn context_in_order<V: AttributeValidator>(
     requires sound { AreSound env.now }
     requires catalog { IsCatalog env.now order.now.catalog }
     requires places { (k : Kind) → of_kind k order.now.places ≡ places_of env.now k }
-    ensures { (names : ℕ → Naming) → AreNamed env.now names → AnswersContext env.now
-        (V.meaning validator.now) config names result }
+    ensures { AnswersDeclarations env.now (V.meaning validator.now) config result }
 {
     what_is_accepted_fits();
+    every_path_has_a_meaning();
     match lower_or_refuse_in(alloc, env, order, config, validator) {
         Ok(defs) => used_context(alloc, env, order, defs),
         Err(fault) => Err(fault),
@@ -95,25 +94,22 @@ fn context_in_order<V: AttributeValidator>(
 
 /// What is made of all declarations of an environment.
 pub trait FromEnv: Drop {
-    /// Which answers are right for declarations, by what a backend says of itself, what is allowed and
-    /// what the paths mean.
-    ghost answers: { List Module → Backend → LoweringConfig → (ℕ → Naming) → Result Self LowerFault
-        → Type 0 };
+    /// Which answers are right for declarations, by what a backend says of itself and what is allowed.
+    ghost answers: { List Module → Backend → LoweringConfig → Result Self LowerFault → Type 0 };
 
-    /// What is made of all declarations, where nothing is wrong in them; or all that is, each told at
-    /// its place. `NoMemory` where there is no memory.
+    /// What is made of all declarations, where no rule is broken in them; or what is broken, told at
+    /// each place at which anything is. `NoMemory` where there is no memory.
     fn from_env<V: AttributeValidator>(
         alloc: Global,
         env: &Env,
         config: LoweringConfig,
         validator: &V,
     ) -> Result<Self, LowerFault>
-        ensures { (names : ℕ → Naming) → AreNamed env.now names → answers env.now
-            (V.meaning validator.now) config names result };
+        ensures { answers env.now (V.meaning validator.now) config result };
 }
 
 impl FromEnv for TypeContext {
-    ghost answers = { AnswersContext };
+    ghost answers = { AnswersDeclarations };
 
     fn from_env<V: AttributeValidator>(
         alloc: Global,

@@ -1,4 +1,4 @@
-//! All declarations of an environment as one context, or all that is wrong in them.
+//! All declarations of an environment as one context, or what is broken in them.
 //!
 //! One example runs through this crate:
 //!
@@ -9,8 +9,8 @@
 //!
 //! Nothing is wrong here, so `TypeContext::from_env`, by the trait [`FromEnv`], answers with the context of all items, kind by kind and in
 //! order, of which none is left out: an out-struct `Cut`, a struct `Line` and an opaque `Page`. Each has how all others use it, as that `Line` is
-//! sliced, and the path of the module that its item stands in. Where something is wrong, it answers with all of it, in two steps of which the
-//! first that tells anything is the last:
+//! sliced, and the path of the module that its item stands in. Where a rule is broken, it answers with reports, one at least at each such place,
+//! in two steps of which the first that tells anything is the last:
 //!
 //! | what is looked at | what may be told |
 //! |---|---|

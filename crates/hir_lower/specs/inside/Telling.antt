@@ -1,17 +1,13 @@
 -- What the calls tell one another.
 use Rattle.std.specs.Prelude.{◌≡◌, ◌≢◌, ◌++◌, ⊤, ℕ, List, [], Result, Ok, Err}
 use Rattle.bridge_decl.specs.declared.modules.Module.{Module}
-use Rattle.bridge_order.specs.declared.catalog.Catalog.{Catalog}
-use Rattle.bridge_places.specs.Entries.{IsCatalog}
 use Rattle.hir_backends.specs.Backend.{Backend}
 use Rattle.hir_config.specs.declared.config.LoweringConfig.{LoweringConfig}
 use Rattle.hir_number.specs.Naming.{Naming}
-use Rattle.hir_reports.specs.Store.{Held}
 use Rattle.hir_reports.specs.declared.report.LoweringReport.{LoweringReport}
 use Rattle.hir_usage_notes.specs.declared.definitions.LoweredDefinitions.{LoweredDefinitions}
 use Rattle.hir_lowering.specs.Interface.{Interface}
 use Rattle.hir_lowering.specs.Lowered.{AreLowered, lowering_reports}
-use Rattle.hir_lowering.specs.Walks.{interface_of}
 use Rattle.hir_lower.specs.Acceptance.{HoldsByCatalog}
 use Rattle.hir_lower.specs.Refusals.{TellsNestingOf}
 use Rattle.hir_lower.specs.declared.fault.LowerFault.{LowerFault}
