@@ -1,0 +1,9 @@
+pub mod FormedLemmas
+pub mod ShapedLemmas
+pub mod TypeLemmas
+pub mod KnowingLemmas
+pub mod JoinLemmas
+pub mod MethodLemmas
+pub mod ItemLemmas
+pub mod AgreeLemmas
+pub mod ContextLemmas

@@ -1,0 +1,5 @@
+pub mod NumberedSkeletons
+pub mod Knowing
+pub mod Inputs
+pub mod Declared
+pub mod Readings
