@@ -126,6 +126,7 @@ module _ (it : Interface) where
         record {
           lifetimes = has.lifetimes;
           inputs = has.inputs;
+          named = has.named;
           leaves = ap (λ inputs. from_fields in_field (input_leaves fields_of m.lifetime_env.count) inputs) (input_skeletons m)
               ∙ ap (leaves_of_inputs fields_of m.lifetime_env.count) has.inputs
               ∙ inputs_known (id_there it.catalog) (declared_fields it) fields_of agree m.lifetime_env.count (numbered_inputs it.catalog n)

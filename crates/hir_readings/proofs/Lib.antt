@@ -1,6 +1,8 @@
 pub mod FormedLemmas
 pub mod ShapedLemmas
 pub mod TypeLemmas
+pub mod NamedLemmas
+pub mod ReturnLemmas
 pub mod KnowingLemmas
 pub mod JoinLemmas
 pub mod MethodLemmas

@@ -48,18 +48,21 @@ use Rattle.hir_signatures.specs.declared.signatures.SignatureTypes.{SignatureTyp
 use Rattle.hir_stages.specs.Filling.{fill_borrow, fill_own}
 use Rattle.hir_stages.specs.Given.{breached_stage, named_stage, numbered_stage}
 use Rattle.hir_stages.specs.Numbering.{filled_function, filled_method, filled_signature}
-use Rattle.hir_types.specs.Named.{Returned}
+use Rattle.hir_types.specs.Named.{Returned, lifetimes_named}
 use Rattle.hir_types.specs.declared.self_types.SelfType.{SelfType}
 use Rattle.hir_readings.specs.Declared.{function_signature, method_signature, numbered_as}
 use Rattle.hir_readings.specs.Inputs.{Input, input_known_as, lowered_input, lowered_inputs, numbered_input, numbered_inputs, own_input, receiver_input}
 use Rattle.hir_readings.specs.Knowing.{id_there}
+use Rattle.hir_readings.specs.NamedLifetimes.{returned_lifetimes}
 use Rattle.hir_readings.proofs.JoinLemmas.{all_joined, known_made}
+use Rattle.hir_readings.proofs.ReturnLemmas.{output_named}
 use Rattle.hir_readings.proofs.TypeLemmas.{if_some, input_received, param_has}
 
 -- it has the inputs and the lifetimes of the signature
 pub record HasInputs (catalog : Catalog) (m : Method) (n : NumberedSignature) : Type 0 where
   pub lifetimes : m.lifetime_env ≡ n.lifetimes
   pub inputs : lowered_inputs m ≡ map (input_known_as (id_there catalog)) (numbered_inputs catalog n)
+  pub named : lifetimes_named m.output ≡ returned_lifetimes catalog n.output
 
 -- there is a signature, and it does
 pub record HasDeclared (catalog : Catalog) (m : Method) (declared : Option NumberedSignature) : Type 0 where
@@ -127,22 +130,25 @@ module _ (catalog : Catalog) where
     module _ (attrs : Attrs) (heading : Heading) (marks : Option Attrs) (ps : List DeclaredParam) (written : Option WriteType) where
       parts_made : (n : NumberedSignature) → KeepsOwn n marks → KeepsParams n ps
           → (own : Option (Option SelfType)) (params : Option (List ParamType)) (output : Option Returned) → own_form catalog n.borrow n.own ≡ own → params_form catalog n.params ≡ params
+          → IfSome output (λ r. lifetimes_named r ≡ returned_lifetimes catalog n.output)
           → IfSome (option_map (whole_of attrs heading marks (untyped_forms backend ps)) (option_map (λ types. record { types = types; lifetimes = n.lifetimes })
           (both_given (λ make made. make made) (both_given (λ receiver types. lowered_signature receiver types) own params) output))) (λ m. HasInputs catalog m n)
-      parts_made n keeps_own keeps_params (Some own) (Some params) (Some output) own_is params_are =
+      parts_made n keeps_own keeps_params (Some own) (Some params) (Some output) own_is params_are named =
           record {
             lifetimes = refl;
             inputs = ap (λ first. first ++ params_joined ps params) (keeps_own own own_is ∙ known_made (λ made. received made ≡ own_known n.borrow n.own) (own_form catalog n.borrow n.own) own own_is (own_has n.borrow n.own))
                 ∙ ap (λ rest. own_known n.borrow n.own ++ rest) (keeps_params params params_are)
                 ∙ sym (map-append known_input (where_any (λ target. own_input catalog n.borrow target ∷ []) n.own) (map (numbered_input catalog) n.params));
+            named = named;
           }
-      parts_made n keeps_own keeps_params (Some own) (Some params) None own_is params_are = tt
-      parts_made n keeps_own keeps_params (Some own) None output own_is params_are = tt
-      parts_made n keeps_own keeps_params None params output own_is params_are = tt
+      parts_made n keeps_own keeps_params (Some own) (Some params) None own_is params_are named = tt
+      parts_made n keeps_own keeps_params (Some own) None output own_is params_are named = tt
+      parts_made n keeps_own keeps_params None params output own_is params_are named = tt
 
       whole_made : (n : NumberedSignature) → KeepsOwn n marks → KeepsParams n ps → IfSome (option_map (whole_of attrs heading marks (untyped_forms backend ps)) (types_form catalog written n)) (λ m. HasInputs catalog m n)
       whole_made n keeps_own keeps_params =
           parts_made n keeps_own keeps_params (own_form catalog n.borrow n.own) (params_form catalog n.params) (output_form catalog written n.output) refl refl
+          (output_named catalog written n.output)
 
       staged : (filled : NumberLists → NumberedSignature) → ((ns : NumberLists) → KeepsOwn (filled ns) marks) → ((ns : NumberLists) → KeepsParams (filled ns) ps)
           → (breaches : List Broken) (told : List LoweringError) (numbers : Result NumberLists NumberFault)

@@ -30,7 +30,7 @@ use Rattle.hir_readings.proofs.FormedLemmas.{ElementHas, ShapeHas, SliceHas, Val
 -- ---- generics
 
 -- those of one level of a type
-abbrev level_generics : NumberedType-F NumberedType → Generics
+abbrev pub level_generics : NumberedType-F NumberedType → Generics
 level_generics x = generics_step (map-NumberedType NumberedType Generics generics_in x)
 
 generics_of_level : (ty : NumberedType) → generics_in ty ≡ level_generics (out-NumberedType ty)
@@ -42,7 +42,7 @@ known_carrier : {K L : Type 0} (f : K → L) (ls : List (MaybeStatic ℕ)) → c
 known_carrier f [] = refl
 known_carrier f (l ∷ ls) = refl
 
-own_is_borrow : (b : Option (MaybeStatic ℕ × Mutability)) → own_lifetime (slice_borrow b) ≡ borrow_lifetime b
+pub own_is_borrow : (b : Option (MaybeStatic ℕ × Mutability)) → own_lifetime (slice_borrow b) ≡ borrow_lifetime b
 own_is_borrow None = refl
 own_is_borrow (Some b) = refl
 
@@ -162,7 +162,7 @@ module _ (catalog : Catalog) where
   absent_element_level b d _ = tt
 
   -- with the generics of the type in place of those of its level
-  at_type : (P : Generics → Type 0) (ty : NumberedType) → P (level_generics (out-NumberedType ty)) → P (generics_in ty)
+  pub at_type : (P : Generics → Type 0) (ty : NumberedType) → P (level_generics (out-NumberedType ty)) → P (generics_in ty)
   at_type P ty h = subst P (sym (generics_of_level ty)) h
 
   optional_level : (d : StdlibOrDiplomat) (x : NumberedType-F NumberedType) → ElementHas (level_absent_element x) (level_generics x) (level_optional_element catalog d x)

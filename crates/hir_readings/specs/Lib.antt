@@ -1,4 +1,5 @@
 pub mod NumberedSkeletons
+pub mod NamedLifetimes
 pub mod Knowing
 pub mod Inputs
 pub mod Declared

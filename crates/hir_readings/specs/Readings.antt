@@ -14,9 +14,11 @@ use Rattle.hir_skeleton.specs.Inputs.{method_inputs}
 use Rattle.hir_skeleton.specs.Leaves.{DeepLeaf, from_fields, in_field, input_leaves}
 use Rattle.hir_skeleton.specs.Lowered.{input_fields}
 use Rattle.hir_skeleton.specs.Skeletons.{Skeleton}
+use Rattle.hir_types.specs.Named.{lifetimes_named}
 use Rattle.hir_readings.specs.Declared.{declared_fields, declared_function, declared_methods, method_signature}
 use Rattle.hir_readings.specs.Inputs.{edges_of_inputs, input_known_as, leaves_of_inputs, lowered_inputs, numbered_inputs}
 use Rattle.hir_readings.specs.Knowing.{edge_known_as, id_there}
+use Rattle.hir_readings.specs.NamedLifetimes.{returned_lifetimes}
 
 -- ---- structs
 
@@ -35,10 +37,11 @@ leaves_among fields_of m = from_fields in_field (input_leaves fields_of m.lifeti
 abbrev pub declared_leaves : Interface → NumberedSignature → List DeepLeaf
 declared_leaves it n = leaves_of_inputs (declared_fields it) n.lifetimes.count (numbered_inputs it.catalog n)
 
--- a lowered method has the lifetimes of the numbered signature, its inputs with the ids of structs in place of their places, the same
--- leaves, and by any test of lifetimes the same edges with these ids
+-- a lowered method has the lifetimes of the numbered signature, and its return names the same; its inputs are those of the signature with
+-- the ids of structs in place of their places, with the same leaves, and by any test of lifetimes with the same edges but for these ids
 pub record IsReadLike (it : Interface) (fields_of : TypeId → List (Skeleton TypeId)) (m : Method) (n : NumberedSignature) : Type 0 where
   pub lifetimes : m.lifetime_env ≡ n.lifetimes
+  pub named : lifetimes_named m.output ≡ returned_lifetimes it.catalog n.output
   pub inputs : lowered_inputs m ≡ map (input_known_as (id_there it.catalog)) (numbered_inputs it.catalog n)
   pub leaves : leaves_among fields_of m ≡ declared_leaves it n
   pub edges : (test : ℕ → Bool)

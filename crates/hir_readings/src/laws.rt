@@ -1,9 +1,10 @@
 //! Laws of types, inputs and lowered definitions: each is the contract of a function without a body.
 
-ghost use Rattle.std.specs.Prelude.{◌≡◌, ℕ, List, Bool, IfSome, Option, map};
+ghost use Rattle.std.specs.Prelude.{◌≡◌, ℕ, List, Bool, IfSome, Option, Some, map};
 ghost use Rattle.std.specs.List.{AllZip};
 ghost use Rattle.bridge_ast.specs.declared.place.ItemPlace.{ItemPlace};
 ghost use Rattle.bridge_decl.specs.declared.types.Mutability.{Mutability};
+ghost use Rattle.bridge_decl.specs.declared.types.WriteType.{WriteType};
 ghost use Rattle.bridge_order.specs.declared.catalog.Catalog.{Catalog};
 ghost use Rattle.bridge_places.specs.Entries.{IsCatalog};
 ghost use Rattle.bridge_places.specs.Places.{places_of};
@@ -11,7 +12,7 @@ ghost use Rattle.bridge_places.specs.declared.kinds.Kind.TheVariants as kind;
 ghost use Rattle.hir_context.specs.Lookups.{InputStruct, OutputStruct};
 ghost use Rattle.hir_definitions.specs.declared.definitions.EnumDef.{EnumDef};
 ghost use Rattle.hir_definitions.specs.declared.definitions.OpaqueDef.{OpaqueDef};
-ghost use Rattle.hir_form.specs.ParamForms.{field_form, param_form};
+ghost use Rattle.hir_form.specs.ParamForms.{field_form, method_return_form, param_form};
 ghost use Rattle.hir_form.specs.ReceiverForms.{receiver_form};
 ghost use Rattle.hir_life.specs.declared.maybe_static.MaybeStatic.{MaybeStatic};
 ghost use Rattle.hir_lowering.specs.Interface.{Interface};
@@ -20,10 +21,12 @@ ghost use Rattle.hir_number.specs.declared.numbered.NumberedType.{NumberedType};
 ghost use Rattle.hir_number.specs.declared.numbered.Target.{Target};
 ghost use Rattle.hir_skeleton.specs.Lowered.{field_skeleton};
 ghost use Rattle.hir_skeleton.specs.Skeletons.{Skeleton};
+ghost use Rattle.hir_types.specs.Named.{lifetimes_named};
 ghost use Rattle.hir_usage_notes.specs.declared.definitions.LoweredDefinitions.{LoweredDefinitions};
 ghost use Rattle.hir_readings.specs.Declared.{declared_fields};
 ghost use Rattle.hir_readings.specs.Inputs.{Input, edges_of_inputs, input_known_as, leaves_of_inputs, lowered_input, numbered_input, own_input, receiver_input};
 ghost use Rattle.hir_readings.specs.Knowing.{edge_known_as, id_there, known_as};
+ghost use Rattle.hir_readings.specs.NamedLifetimes.{returned_lifetimes};
 ghost use Rattle.hir_readings.specs.NumberedSkeletons.{numbered_skeleton};
 ghost use Rattle.hir_readings.specs.Readings.{AreReadAsDeclared, IsFunctionRead, fields_among};
 
@@ -37,6 +40,14 @@ pub fn forms_have_the_skeletons_of_their_types()
     ensures receiver { (catalog : Catalog) (borrow : Option (MaybeStatic ℕ × Mutability))
         (target : Target) → IfSome (receiver_form catalog borrow target) (λ r. receiver_input r
         ≡ input_known_as (id_there catalog) (own_input catalog borrow target)) }
+{}
+
+/// What a numbered return stands for names the lifetimes in its type, whatever its trailing writer
+/// takes.
+pub fn returns_name_the_lifetimes_of_their_types()
+    ensures { (catalog : Catalog) (written : Option WriteType) (ty : NumberedType)
+        → IfSome (method_return_form catalog written ty)
+        (λ r. lifetimes_named r ≡ returned_lifetimes catalog (Some ty)) }
 {}
 
 /// By what structs are known makes no difference, where those that are known otherwise have the

@@ -38,6 +38,12 @@
 //! leaves, and none to edges but for that, [`readings_know_structs_by_anything`]. The definitions of
 //! all items have the declared fields, [`lowered_structs_have_the_declared_fields`].
 //!
+//! # What is asked of leaves
+//!
+//! Lists are made for the lifetimes that a return names: of `open` these are 'a and 'b. They are read
+//! off the numbered type (`specs/NamedLifetimes`), and what it stands for names the same,
+//! [`returns_name_the_lifetimes_of_their_types`].
+//!
 //! # Both agree
 //!
 //! So the lowered methods of a type are its enabled methods in order, each with the same lifetimes,
@@ -58,4 +64,5 @@ pub use contexts::contexts_are_read_as_declared;
 pub use laws::{
     forms_have_the_skeletons_of_their_types, lowered_definitions_are_read_as_declared,
     lowered_structs_have_the_declared_fields, readings_know_structs_by_anything,
+    returns_name_the_lifetimes_of_their_types,
 };
