@@ -4,7 +4,6 @@ use Rattle.std.specs.Prelude.{IfSome, option_and_then, option_map}
 use Rattle.std.specs.List.{AllZip, filter}
 use Rattle.bridge_ast.specs.declared.place.ItemPlace.{ItemPlace}
 use Rattle.bridge_decl.specs.declared.attrs.Attrs.{Attrs as DeclaredAttrs}
-use Rattle.bridge_decl.specs.declared.enums.Enum.{Enum}
 use Rattle.bridge_decl.specs.declared.methods.Method.{Method as DeclaredMethod}
 use Rattle.bridge_decl.specs.declared.modules.Item.{Item}
 use Rattle.bridge_decl.specs.declared.modules.Item.TheVariants as item
