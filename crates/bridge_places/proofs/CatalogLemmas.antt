@@ -18,6 +18,7 @@ use Rattle.bridge_places.specs.Entries.{IsCatalog}
 use Rattle.bridge_places.specs.inside.Numbering.{entries_from, with_module, with_modules, with_place, with_places}
 use Rattle.bridge_order.proofs.OrderLemmas.{all_got}
 use Rattle.bridge_places.proofs.NumberLemmas.{at, begun, described, kept, set_elsewhere}
+use Rattle.bridge_places.proofs.WholeLemmas.{all_kept, all_whole}
 
 -- there are no more entries than items
 no_entry : (number i j : ℕ) (items : List Item) (places : KindPlaces) → slice_get items j ≡ None
@@ -88,4 +89,6 @@ pub is_catalog : (modules : List Module) (slots : List (List Entry)) → length 
 is_catalog modules slots same empty = record {
   entries = λ place it stands. described modules slots place it same stands;
   others = λ place none. none_kept modules (module_order modules) slots place empty none;
+  count = all_kept modules (module_order modules) (begun slots) ∙ same;
+  whole = all_whole modules slots same;
 }

@@ -202,7 +202,7 @@ are_places modules slots k =
 
 -- ---- each module has its entries
 
-set_found : {A : Type 0} (xs : List A) (i : ℕ) (x : A) → i < length xs → slice_get (slice_set xs i x) i ≡ Some x
+pub set_found : {A : Type 0} (xs : List A) (i : ℕ) (x : A) → i < length xs → slice_get (slice_set xs i x) i ≡ Some x
 set_found [] i x lt = absurd (omega (arith, lt))
 set_found (y ∷ xs) zero x lt = refl
 set_found (y ∷ xs) (suc i) x lt = set_found xs i x (omega (arith, lt))
@@ -243,36 +243,45 @@ other_kept number (Some m) found n j it ne known =
     (sym (set_elsewhere slots number n entries ne))
     (numbered_still number 0 m.items found.places it (at n j) (kept found n j) known)
 
-right_still : (modules : List Module) (found : ItemOrder) (number n : ℕ) (b : Bool) → number == n ≡ b
-    → length found.catalog.modules ≡ length modules → RightAt modules found n
+right_beside : (modules : List Module) (n number : ℕ) (found : ItemOrder) → ¬ (number ≡ n) → RightAt modules found n
     → RightAt modules (with_module number (slice_get modules number) found) n
-right_still modules found number n true e same right =
-    let is : n ≡ number = sym (eqb-true number n e) in
-    subst (λ x. RightAt modules (with_module x (slice_get modules x) found) n) is (right_new modules found n same)
-right_still modules found number n false e same right = λ j m it is has.
-    other_kept number (slice_get modules number) found n j it (eqb-false number n e) (right j m it is has)
+right_beside modules n number found ne right = λ j m it is has. other_kept number (slice_get modules number) found n j it ne (right j m it is has)
 
-first_next : (modules : List Module) (number : ℕ) (order : List ℕ) (found : ItemOrder) (n i : ℕ)
-    → length found.catalog.modules ≡ length modules → i < length (number ∷ order) → get_or (number ∷ order) i n ≡ n
-    → Contains order n ⊎ RightAt modules (with_module number (slice_get modules number) found) n
-first_next modules number order found n zero same lt e =
-    inr (subst (λ x. RightAt modules (with_module x (slice_get modules x) found) n) (sym e) (right_new modules found n same))
-first_next modules number order found n (suc i) same lt e = inl (i, omega (arith, lt), e)
+-- what holds once the module n is added, and goes on holding when another is, holds when all are added
+module _ (modules : List Module) (n : ℕ) (P : ItemOrder → Type 0)
+  (new : (found : ItemOrder) → length found.catalog.modules ≡ length modules → P (with_module n (slice_get modules n) found))
+  (beside : (number : ℕ) (found : ItemOrder) → ¬ (number ≡ n) → P found → P (with_module number (slice_get modules number) found)) where
+  holds_still : (found : ItemOrder) (number : ℕ) (b : Bool) → number == n ≡ b → length found.catalog.modules ≡ length modules → P found
+      → P (with_module number (slice_get modules number) found)
+  holds_still found number true e same h =
+      let is : n ≡ number = sym (eqb-true number n e) in
+      subst (λ x. P (with_module x (slice_get modules x) found)) is (new found same)
+  holds_still found number false e same h = beside number found (eqb-false number n e) h
 
-comes_next : (modules : List Module) (number : ℕ) (order : List ℕ) (found : ItemOrder) (n : ℕ)
-    → length found.catalog.modules ≡ length modules → Contains (number ∷ order) n ⊎ RightAt modules found n
-    → Contains order n ⊎ RightAt modules (with_module number (slice_get modules number) found) n
-comes_next modules number order found n same (inl c) = first_next modules number order found n c.0 same c.1 c.2
-comes_next modules number order found n same (inr right) = inr (right_still modules found number n (number == n) refl same right)
+  first_next : (number : ℕ) (order : List ℕ) (found : ItemOrder) (i : ℕ) → length found.catalog.modules ≡ length modules
+      → i < length (number ∷ order) → get_or (number ∷ order) i n ≡ n
+      → Contains order n ⊎ P (with_module number (slice_get modules number) found)
+  first_next number order found zero same lt e = inr (subst (λ x. P (with_module x (slice_get modules x) found)) (sym e) (new found same))
+  first_next number order found (suc i) same lt e = inl (i, omega (arith, lt), e)
 
-all_right : (modules : List Module) (order : List ℕ) (found : ItemOrder) (n : ℕ) → length found.catalog.modules ≡ length modules
-    → Contains order n ⊎ RightAt modules found n → RightAt modules (with_modules modules order found) n
-all_right modules [] found n same (inl c) = absurd (omega (arith, c.1))
-all_right modules [] found n same (inr right) = right
-all_right modules (number ∷ order) found n same h =
-    let o : Option Module = slice_get modules number in
-    all_right modules order (with_module number o found) n (keeps_length number o found ∙ same)
-    (comes_next modules number order found n same h)
+  comes_next : (number : ℕ) (order : List ℕ) (found : ItemOrder) → length found.catalog.modules ≡ length modules
+      → Contains (number ∷ order) n ⊎ P found → Contains order n ⊎ P (with_module number (slice_get modules number) found)
+  comes_next number order found same (inl c) = first_next number order found c.0 same c.1 c.2
+  comes_next number order found same (inr h) = inr (holds_still found number (number == n) refl same h)
+
+  holds_of_all : (order : List ℕ) (found : ItemOrder) → length found.catalog.modules ≡ length modules → Contains order n ⊎ P found
+      → P (with_modules modules order found)
+  holds_of_all [] found same (inl c) = absurd (omega (arith, c.1))
+  holds_of_all [] found same (inr h) = h
+  holds_of_all (number ∷ order) found same h =
+      let o : Option Module = slice_get modules number in
+      holds_of_all order (with_module number o found) (keeps_length number o found ∙ same) (comes_next number order found same h)
+
+  -- all are added in their order
+  pub holds_in_order : (slots : List (List Entry)) (m : Module) → length slots ≡ length modules → slice_get modules n ≡ Some m
+      → P (with_modules modules (module_order modules) (begun slots))
+  holds_in_order slots m same is =
+      holds_of_all (module_order modules) (begun slots) same (inl (all_ordered modules n m (slice_get_within modules n m is)))
 
 -- each item has the entry that describes it
 pub described : (modules : List Module) (slots : List (List Entry)) (place : ItemPlace) (it : Item) → length slots ≡ length modules
@@ -286,9 +295,9 @@ described modules slots place it same stands =
     of_it m is has =
         let n : ℕ = place.«module» in
         let all : ItemOrder = with_modules modules (module_order modules) (begun slots) in
-        let ordered : Contains (module_order modules) n = all_ordered modules n m (slice_get_within modules n m is) in
         let right : Numbered all.places it (at n place.item) (kept all n place.item) =
-        all_right modules (module_order modules) (begun slots) n same (inl ordered) place.item m it is has in
+        holds_in_order modules n (λ found. RightAt modules found n) (λ found s. right_new modules found n s) (right_beside modules n) slots m same is
+        place.item m it is has in
         record {
           is = right.is;
           number = subst (λ l. slice_get l (id_of (kept all n place.item)) ≡ Some place) (are_places modules slots (item_kind it)) right.number;

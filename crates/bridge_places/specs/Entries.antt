@@ -1,5 +1,5 @@
 -- What a catalog says of modules.
-use Rattle.std.specs.Prelude.{◌≡◌, ℕ, List, [], ◌∷◌, Bool, true, false, Some, None, slice_get}
+use Rattle.std.specs.Prelude.{◌≡◌, ℕ, List, [], ◌∷◌, Bool, true, false, Option, Some, None, length, slice_get}
 use Rattle.bridge_decl.specs.declared.modules.Module.{Module}
 use Rattle.bridge_decl.specs.declared.modules.Item.{Item}
 use Rattle.bridge_decl.specs.declared.modules.Item.TheVariants as item
@@ -36,7 +36,15 @@ pub record Describes (modules : List Module) (it : Item) (place : ItemPlace) (e 
   pub is : e ≡ entry_of (id_of e) it
   pub number : slice_get (places_of modules (item_kind it)) (id_of e) ≡ Some place
 
--- each item has its entry, and where no item stands there counts an enum
+-- so many entries as the module has items
+pub record HasEntriesOf (m : Module) (found : Option (List Entry)) : Type 0 where
+  pub entries : List Entry
+  pub has : found ≡ Some entries
+  pub count : length entries ≡ length m.items
+
+-- each item has its entry, and where no item stands there counts an enum; and there is nothing besides, so that modules have one catalog
 pub record IsCatalog (modules : List Module) (catalog : Catalog) : Type 0 where
   pub entries : (place : ItemPlace) (it : Item) → item_of modules place ≡ Some it → Describes modules it place (entry_at catalog place)
   pub others : (place : ItemPlace) → item_of modules place ≡ None → entry_at catalog place ≡ entry.Enum 0
+  pub count : length catalog.modules ≡ length modules
+  pub whole : (n : ℕ) (m : Module) → slice_get modules n ≡ Some m → HasEntriesOf m (slice_get catalog.modules n)
