@@ -15,7 +15,7 @@ use Rattle.bridge_places.specs.Kinds.{item_kind}
 use Rattle.bridge_order.specs.Order.{module_order}
 use Rattle.bridge_order.specs.Catalog.{entry_in, module_entry}
 use Rattle.bridge_places.specs.Entries.{IsCatalog}
-use Rattle.bridge_places.specs.inside.Numbering.{entries_from, with_module, with_modules, with_place, with_places}
+use Rattle.bridge_places.specs.inside.Numbering.{entries_from, with_module, with_modules, with_place}
 use Rattle.bridge_order.proofs.OrderLemmas.{all_got}
 use Rattle.bridge_places.proofs.NumberLemmas.{at, begun, described, kept, set_elsewhere}
 use Rattle.bridge_places.proofs.WholeLemmas.{all_kept, all_whole}

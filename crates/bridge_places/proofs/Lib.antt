@@ -1,3 +1,4 @@
 pub mod CatalogLemmas
 pub mod LawLemmas
 pub mod NumberLemmas
+pub mod WholeLemmas

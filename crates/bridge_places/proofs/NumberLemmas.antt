@@ -249,8 +249,8 @@ right_beside modules n number found ne right = λ j m it is has. other_kept numb
 
 -- what holds once the module n is added, and goes on holding when another is, holds when all are added
 module _ (modules : List Module) (n : ℕ) (P : ItemOrder → Type 0)
-  (new : (found : ItemOrder) → length found.catalog.modules ≡ length modules → P (with_module n (slice_get modules n) found))
-  (beside : (number : ℕ) (found : ItemOrder) → ¬ (number ≡ n) → P found → P (with_module number (slice_get modules number) found)) where
+    (new : (found : ItemOrder) → length found.catalog.modules ≡ length modules → P (with_module n (slice_get modules n) found))
+    (beside : (number : ℕ) (found : ItemOrder) → ¬ (number ≡ n) → P found → P (with_module number (slice_get modules number) found)) where
   holds_still : (found : ItemOrder) (number : ℕ) (b : Bool) → number == n ≡ b → length found.catalog.modules ≡ length modules → P found
       → P (with_module number (slice_get modules number) found)
   holds_still found number true e same h =

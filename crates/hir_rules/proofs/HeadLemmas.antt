@@ -32,11 +32,9 @@ use Rattle.hir_traits.specs.TraitMethods.{param_name_errors}
 use Rattle.hir_rules.proofs.AppendLemmas.{in_four}
 use Rattle.hir_rules.specs.Heads.{FieldHeadsBreak, HeadBreaks, HeadingBreaks, NotesBreak, ParamHeadsBreak, ParamNamesBreak, ReceiverMarksBreak, VariantsBreak}
 use Rattle.hir_rules.specs.rules.BadIdent.{BadIdent, BadLifetimeIdent}
+use Rattle.hir_rules.proofs.PathLemmas.{not_false}
 
 -- ---- names
-
-not_false : ¬ (false ≡ true)
-not_false h = cc
 
 name_by : (b : Bool) (name : List ℕ) → Decides b (IsIdent name) → TellsExactly (if b then [] else about rule.BadIdent name ∷ []) (BadIdent name)
 name_by true name d e = (λ h. absurd (in_none e h), λ h. absurd (h.0 (d.0 refl)))

@@ -59,11 +59,9 @@ use Rattle.hir_rules.proofs.AppendLemmas.{in_four, in_three}
 use Rattle.hir_rules.proofs.CallableLemmas.{function_told, method_told, trait_method_told}
 use Rattle.hir_rules.proofs.HeadLemmas.{field_heads_exactly, lifetimes_exactly, name_exactly, notes_exactly, variants_exactly}
 use Rattle.hir_rules.proofs.TypeLemmas.{as_faults, field_type_told, field_types_told, out_field_type_told}
+use Rattle.hir_rules.proofs.PathLemmas.{not_false}
 
 -- ---- rules on items alone
-
-not_false : ¬ (false ≡ true)
-not_false h = cc
 
 limit_by : (b : Bool) (D : Type 0) → Decides b D → TellsExactly (if b then plain_error rule.TooManyLifetimes ∷ [] else []) (λ e. D × (e ≡ plain_error rule.TooManyLifetimes))
 limit_by true D d e = (

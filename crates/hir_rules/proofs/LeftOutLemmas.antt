@@ -28,6 +28,7 @@ use Rattle.hir_number.specs.Uses.{One, Path, Use}
 use Rattle.hir_number.specs.declared.fault.NumberFault.{NumberFault}
 use Rattle.hir_number.specs.declared.fault.NumberFault.TheVariants as fault
 use Rattle.hir_rules.specs.LeftOut.{LeavesOut, StandsAfter}
+use Rattle.hir_rules.proofs.PathLemmas.{not_false}
 
 -- ---- what a lifetime that has a number of its own is never refused for
 
@@ -236,9 +237,6 @@ not_returning role h = cc
 
 not_defining : (role : Role) → ¬ (Using role ≡ Defining)
 not_defining role h = cc
-
-not_false : ¬ (false ≡ true)
-not_false h = cc
 
 -- an elided lifetime in the return, or one left out in a definition, has a fault
 pub out_fault : (phase : Phase) (s : Signature) (u : Use) (e : ElideFault) → ((phase ≡ Returning) × (is_own_use u ≡ false)) ⊎ (phase ≡ Defining) → lowered phase s written.Anonymous ≡ Err e

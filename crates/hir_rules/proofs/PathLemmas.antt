@@ -33,7 +33,7 @@ use Rattle.hir_rules.specs.rules.SelfMismatch.{IsOther, SelfMismatch}
 use Rattle.hir_rules.specs.rules.TooManyLifetimes.{DeclaresTooMany}
 use Rattle.hir_rules.specs.rules.UnresolvedPath.{UnresolvedPath}
 
-not_false : ¬ (false ≡ true)
+pub not_false : ¬ (false ≡ true)
 not_false h = cc
 
 -- ---- one lifetime

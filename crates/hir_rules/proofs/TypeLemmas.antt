@@ -56,7 +56,7 @@ use Rattle.hir_traits.specs.TraitTypes.{trait_judged_errors, trait_method_type_e
 use Rattle.hir_rules.specs.Paths.{FieldPathsBreak, FunctionPathsBreak, MethodPathsBreak, TraitMethodPathsBreak}
 use Rattle.hir_rules.specs.Types.{AsFaultErrors, FieldTypeBreaks, FieldTypesBreak, FunctionTypesBreak, MethodTypesBreak, NumberedBreaks, NumberedFieldsBreak, NumberedTraitBreaks, OutFieldTypeBreaks, OutputBreaks, OwnBreaks, TrailingBreaks, TraitMethodTypesBreak, TraitOutputBreaks}
 use Rattle.hir_rules.proofs.NumberLemmas.{fault_is_told}
-use Rattle.hir_rules.proofs.PathLemmas.{field_paths, function_paths, method_paths, trait_method_paths}
+use Rattle.hir_rules.proofs.PathLemmas.{field_paths, function_paths, method_paths, not_false, trait_method_paths}
 use Rattle.hir_rules.proofs.StageLemmas.{few_of, stage_same, staged, staged_tells}
 
 -- ---- faults as errors
@@ -156,9 +156,6 @@ trait_types_told support config catalog names owner method =
     (λ none f lowered same. trait_method_elided {A = NumberLists} names owner method (Err f) none (fault_is_told method.lifetimes f numbers lowered same)))
 
 -- ---- fields
-
-not_false : ¬ (false ≡ true)
-not_false h = cc
 
 safety_by : (b : Bool) (name : List ℕ) (ty : NumberedType) → Decides b (IsFfiSafe ty) → TellsExactly (if b then [] else field_error name ∷ []) (λ e. (¬ (IsFfiSafe ty)) × (e ≡ field_error name))
 safety_by true name ty d e = (λ h. absurd (in_none e h), λ h. absurd (h.0 (d.0 refl)))

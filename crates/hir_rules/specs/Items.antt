@@ -1,5 +1,5 @@
--- Which rules an item breaks, and its methods, each at its place. A disabled item is tested for its names, its marks, its documents and the
--- variants of an enum, and for nothing else.
+-- Which rules an item breaks, and its methods, each at its place. A disabled item is tested for its names, its marks, its documents, the
+-- variants of an enum, and whether a trait may be `Send` or `Sync`, and for nothing else.
 use Rattle.std.specs.Prelude.{◌≡◌, ◌⊎◌, ℕ, List, true, false, None, Some}
 use Rattle.std.specs.List.{Contains}
 use Rattle.bridge_ast.specs.declared.place.ItemPlace.{ItemPlace}
