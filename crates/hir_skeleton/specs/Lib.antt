@@ -3,3 +3,4 @@ pub mod Leaves
 pub mod Edges
 pub mod Lowered
 pub mod Inputs
+pub mod NamedLeaves
