@@ -21,11 +21,10 @@ use Rattle.hir_fitting.specs.Fitting.{Fits, IsKnown}
 use Rattle.hir_fitting.specs.Parts.{Part, PartFits, method_part, parts_of_enum, parts_of_function, parts_of_opaque, parts_of_struct}
 use Rattle.hir_fitting.specs.declared.census.Census.{Census}
 use Rattle.hir_context.specs.Fitness.{AllFit, MethodFits, census_of, parts_at}
-use Rattle.hir_context.specs.Lookups.{DefinedType, Enum, InputStruct, Opaque, OutStruct, OutputStruct, Struct, defined_at}
+use Rattle.hir_context.specs.Lookups.{DefinedType, Enum, InputStruct, Opaque, OutStruct, OutputStruct, Struct, defined_at, type_methods}
 use Rattle.hir_context.specs.declared.context.TypeContext.{TypeContext}
 use Rattle.hir_context.specs.declared.parts.Definitions.{Definitions}
 use Rattle.hir_skeleton.proofs.Members.{first_is_there, later_is_there, mapped_is_there}
-use Rattle.hir_borrow.specs.Methods.{type_methods}
 
 -- ---- whether a method fits has one proof at most
 

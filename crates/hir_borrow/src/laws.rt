@@ -5,9 +5,8 @@ ghost use Rattle.std.specs.List.{Contains};
 ghost use Rattle.hir_ids.specs.declared.ids.TypeId.{TypeId};
 ghost use Rattle.hir_definitions.specs.declared.methods.Method.{Method};
 ghost use Rattle.hir_context.specs.Fitness.{MethodFits};
-ghost use Rattle.hir_context.specs.Lookups.{DefinedType, defined_at};
+ghost use Rattle.hir_context.specs.Lookups.{DefinedType, defined_at, type_methods};
 ghost use Rattle.hir_context.specs.declared.context.TypeContext.{TypeContext};
-ghost use Rattle.hir_borrow.specs.Methods.{type_methods};
 
 /// All functions of a context fit it, and all methods of its types.
 pub fn methods_of_contexts_fit()

@@ -1,7 +1,6 @@
 pub mod Edges
 pub mod Answering
 pub mod Keys
-pub mod Inputs
 pub mod Slices
 pub mod Visitors
 pub mod inside

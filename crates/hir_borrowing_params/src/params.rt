@@ -7,7 +7,7 @@ ghost use Rattle.hir_context.specs.Lookups.{environment_at};
 ghost use Rattle.hir_skeleton.specs.Lowered.{skeleton_of};
 ghost use Rattle.hir_borrowing_params.specs.Answering.{TellsParam};
 ghost use Rattle.hir_borrowing_params.specs.Edges.{holding, input_edges};
-ghost use Rattle.hir_borrowing_params.specs.Inputs.{is_slice_type};
+ghost use Rattle.hir_skeleton.specs.Inputs.{is_slice_type};
 ghost use Rattle.hir_borrowing_params.specs.inside.Parts.{input_skeleton, part_is_slice};
 
 use crate::infos::ParamBorrowInfo;

@@ -3,7 +3,7 @@
 ghost use Rattle.std.specs.Prelude.{◌≡◌, true, false};
 ghost use Rattle.hir_ids.specs.declared.ids.TypeId.TheVariants as type;
 ghost use Rattle.hir_skeleton.specs.Lowered.{carrier_of, opaque_skeleton, skeleton_of, slice_carries};
-ghost use Rattle.hir_borrowing_params.specs.Inputs.{is_slice_type};
+ghost use Rattle.hir_skeleton.specs.Inputs.{is_slice_type};
 ghost use Rattle.hir_borrowing_params.specs.inside.Parts.{input_skeleton, part_is_slice};
 
 use hir_ids::{OpaqueOwner, Optional, TypeId};

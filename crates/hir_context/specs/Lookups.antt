@@ -16,6 +16,7 @@ use Rattle.hir_types.specs.declared.positions.OutputOnly.{OutputOnly}
 use Rattle.hir_definitions.specs.declared.definitions.EnumDef.{EnumDef}
 use Rattle.hir_definitions.specs.declared.definitions.OpaqueDef.{OpaqueDef}
 use Rattle.hir_definitions.specs.declared.definitions.StructDef.{StructDef}
+use Rattle.hir_definitions.specs.declared.methods.Method.{Method}
 use Rattle.hir_definitions.specs.declared.type_defs.TypeDef.{TypeDef}
 use Rattle.hir_definitions.specs.declared.type_defs.TypeDef.TheVariants as lent
 use Rattle.hir_context.specs.declared.parts.Definitions.{Definitions}
@@ -33,6 +34,13 @@ pub data DefinedType : Type 0 where
   OutStruct : OutputStruct → DefinedType
   Opaque : OpaqueDef → DefinedType
   Enum : EnumDef → DefinedType
+
+-- its methods, in order
+abbrev pub type_methods : DefinedType → List Method
+type_methods (Struct def) = def.methods
+type_methods (OutStruct def) = def.methods
+type_methods (Opaque def) = def.methods
+type_methods (Enum def) = def.methods
 
 -- that which is lent
 abbrev pub lent_type : TypeDef → DefinedType

@@ -1,6 +1,6 @@
 -- The inputs of a method among the definitions of a context: their skeletons, their leaves, and the names along a path.
 -- In the example of `Skeletons` the only input is `mark`: its leaf has the path 0, 0, and the names `mark`, `page`.
-use Rattle.std.specs.Prelude.{ℕ, List, [], ◌∷◌, ◌++◌, map, Option, Some, None, slice_get}
+use Rattle.std.specs.Prelude.{ℕ, Bool, true, false, List, [], ◌∷◌, ◌++◌, map, Option, Some, None, slice_get}
 use Rattle.hir_ids.specs.declared.ids.TypeId.{TypeId}
 use Rattle.hir_ids.specs.declared.ids.TypeId.TheVariants as type
 use Rattle.hir_ids.specs.declared.owners.Borrow.{Borrow}
@@ -8,7 +8,8 @@ use Rattle.hir_types.specs.declared.callbacks.Callback.{Callback}
 use Rattle.hir_types.specs.declared.paths.StructPath.{StructPath}
 use Rattle.hir_types.specs.declared.paths.TraitPath.{TraitPath}
 use Rattle.hir_types.specs.declared.positions.InputOnly.{InputOnly}
-use Rattle.hir_types.specs.declared.types.HirType.{HirType}
+use Rattle.hir_types.specs.declared.types.HirType.{HirType, fold-HirType}
+use Rattle.hir_types.specs.declared.types.HirType.TheOpen.{HirType-F}
 use Rattle.hir_definitions.specs.declared.methods.Method.{Method}
 use Rattle.hir_mentions.specs.Mentions.{where_any}
 use Rattle.hir_context.specs.Lookups.{InputStruct}
@@ -29,6 +30,16 @@ fields_in defs id = where_any input_fields (input_struct defs id)
 -- a parameter of this type
 abbrev pub param_skeleton : HirType InputOnly Callback Borrow ℕ StructPath TraitPath → Skeleton TypeId
 param_skeleton = skeleton_of Some (λ path. type.Struct path.tcx_id) (λ path. path.lifetimes) (λ path. path.owner)
+
+module _ {P C O I S T : Type 0} where
+  -- whether it is a slice, or an option of one
+  abbrev pub is_slice_type_step : HirType-F P C O I S T Bool → Bool
+  is_slice_type_step (HirType-F.Slice _) = true
+  is_slice_type_step (HirType-F.DiplomatOption inside) = inside
+  is_slice_type_step _ = false
+
+  abbrev pub is_slice_type : HirType P C O I S T → Bool
+  is_slice_type t = fold-HirType _ _ _ _ _ _ Bool is_slice_type_step t
 
 -- the inputs in order: the receiver, where there is one, and then the parameters
 abbrev pub method_inputs : Method → List (Skeleton TypeId)
