@@ -1,0 +1,5 @@
+pub mod Callables
+pub mod InContext
+pub mod Borrowings
+pub mod Page
+pub mod Limits
