@@ -3,5 +3,4 @@ pub mod Rooms
 pub mod Pushing
 pub mod Starting
 pub mod Telling
-pub mod Parts
 pub mod Searching

@@ -56,7 +56,6 @@ mod infos;
 mod keeping;
 mod own;
 mod params;
-mod parts;
 mod searching;
 mod sets;
 mod slices;

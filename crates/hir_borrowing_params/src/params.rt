@@ -8,16 +8,16 @@ ghost use Rattle.hir_skeleton.specs.Lowered.{skeleton_of};
 ghost use Rattle.hir_borrowing_params.specs.Answering.{TellsParam};
 ghost use Rattle.hir_borrowing_params.specs.Edges.{holding, input_edges};
 ghost use Rattle.hir_skeleton.specs.Inputs.{is_slice_type};
-ghost use Rattle.hir_borrowing_params.specs.inside.Parts.{input_skeleton, part_is_slice};
+ghost use Rattle.hir_parts.specs.Parts.{input_skeleton, part_is_slice};
 
 use crate::infos::ParamBorrowInfo;
-use crate::parts::{InputPart, input_part};
 use crate::visitor::BorrowingParamVisitor;
 use bridge_decl::NoMemory;
 use hir_context::TypeContext;
 use hir_defs::PositionDefs;
 use hir_ids::TypeId;
 use hir_life::LifetimeEnv;
+use hir_parts::{InputPart, input_part};
 use hir_types::{HirType, StructPath};
 
 /// The lifetimes of the definition of this id, lent. None exactly where there is no such
@@ -59,7 +59,7 @@ impl<'tcx> BorrowingParamVisitor<'tcx> {
             InputPart::Carrier(is_slice, own, element, given) => {
                 self.visit_carrier(param_name, *is_slice, *own, *element, given)
             }
-            InputPart::Struct(id, args) => match environment_of(self.tcx, *id) {
+            InputPart::Struct(id, args) => match environment_of(self.tcx, TypeId::Struct(*id)) {
                 Some(env) => self.visit_struct(param_name, env, args, optional),
                 None => Ok(ParamBorrowInfo::NotBorrowed),
             },

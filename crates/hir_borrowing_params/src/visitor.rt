@@ -7,7 +7,8 @@ ghost use Rattle.hir_skeleton.specs.Lowered.{carrier_of};
 ghost use Rattle.hir_skeleton.specs.Skeletons.{Struct};
 ghost use Rattle.hir_borrowing_params.specs.Answering.{TellsParam};
 ghost use Rattle.hir_borrowing_params.specs.Edges.{holding, input_edges};
-ghost use Rattle.hir_borrowing_params.specs.inside.Candidates.{IsKeyed, carried_by};
+ghost use Rattle.hir_borrowing_params.specs.inside.Candidates.{IsKeyed};
+ghost use Rattle.hir_parts.specs.Parts.{carried_by};
 ghost use Rattle.hir_borrowing_params.specs.inside.Telling.{carrier_told};
 
 use crate::edges::{BorrowMap, BorrowedLifetimeInfo};

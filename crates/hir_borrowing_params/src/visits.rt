@@ -4,7 +4,8 @@ ghost use Rattle.std.specs.Prelude.{◌≡◌, ℕ, map, option_map, IfOk, OnOk,
 ghost use Rattle.std.specs.List.{enumerate_from};
 ghost use Rattle.hir_borrowing_params.specs.Answering.{IsUnheld, IsHeld, MapsRows, TellsStruct, counts_for};
 ghost use Rattle.hir_borrowing_params.specs.Edges.{held_under, holding, kind_shown, whole_kind};
-ghost use Rattle.hir_borrowing_params.specs.inside.Candidates.{IsKeyed, candidate_shown, carried_by, keys_of, struct_candidate, struct_edges, whole_edges, with_edges};
+ghost use Rattle.hir_borrowing_params.specs.inside.Candidates.{IsKeyed, candidate_shown, keys_of, struct_candidate, struct_edges, whole_edges, with_edges};
+ghost use Rattle.hir_parts.specs.Parts.{carried_by};
 
 use crate::answers::sets_under;
 use crate::candidates::EdgeCandidate;

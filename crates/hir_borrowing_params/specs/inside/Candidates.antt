@@ -5,16 +5,12 @@ use Rattle.std.specs.BTreeMap.{BTreeMap}
 use Rattle.std.specs.Prelude.{IsSome, IsTrue, nat_eq}
 use Rattle.hir_life.specs.Environment.{Environment}
 use Rattle.hir_life.specs.declared.maybe_static.MaybeStatic.{MaybeStatic}
-use Rattle.hir_types.specs.Slices.{at_most_one}
+use Rattle.hir_parts.specs.Parts.{carried_by}
 use Rattle.hir_skeleton.specs.Leaves.{number_passes}
 use Rattle.hir_borrowing_params.specs.Answering.{some_passes}
 use Rattle.hir_borrowing_params.specs.Edges.{EdgeKind, HeldFor, OfStruct, holding, info_under, is_in, kind_shown, whole_kind}
 use Rattle.hir_borrowing_params.specs.declared.candidates.EdgeCandidate.{EdgeCandidate}
 use Rattle.hir_borrowing_params.specs.declared.edges.BorrowedLifetimeInfo.{BorrowedLifetimeInfo}
-
--- the lifetimes of a carrier: its own, that of its elements, and those that these give their definition
-abbrev pub carried_by : Option (MaybeStatic ℕ) → Option (MaybeStatic ℕ) → List (MaybeStatic ℕ) → List (MaybeStatic ℕ)
-carried_by own element given = at_most_one own ++ (at_most_one element ++ given)
 
 -- the lifetimes of which one has to count
 abbrev pub candidate_lifetimes : EdgeCandidate → List (MaybeStatic ℕ)

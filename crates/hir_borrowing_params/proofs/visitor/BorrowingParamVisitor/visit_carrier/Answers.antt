@@ -1,6 +1,6 @@
 use Rattle.std.proofs.Common.{◌≡◌, option_map, subst}
 use Rattle.hir_borrowing_params.specs.Edges.{held_under, holding}
-use Rattle.hir_borrowing_params.specs.inside.Candidates.{carried_by}
+use Rattle.hir_parts.specs.Parts.{carried_by}
 use Rattle.hir_borrowing_params.proofs.Kinding.{carrier_edges}
 use Rattle.hir_borrowing_params.proofs.visitor.BorrowingParamVisitor.visit_carrier.Goals as goal
 

@@ -7,7 +7,7 @@ use Rattle.hir_borrowing_params.specs.Answering.{TellsParam}
 use Rattle.hir_borrowing_params.specs.Edges.{holding, input_edges}
 use Rattle.hir_skeleton.specs.Inputs.{is_slice_type}
 use Rattle.hir_borrowing_params.specs.Visitors.{kept_under, visited_definitions}
-use Rattle.hir_borrowing_params.specs.inside.Parts.{input_skeleton, part_is_slice}
+use Rattle.hir_parts.specs.Parts.{input_skeleton, part_is_slice}
 use Rattle.hir_borrowing_params.proofs.visitor.BorrowingParamVisitor.visit_param.Goals as goal
 
 pub returns-clause-told : goal.returns-clause-told

@@ -1,18 +1,18 @@
-//! What of a type a visit goes on with.
+//! What of the type of an input counts.
 
 ghost use Rattle.std.specs.Prelude.{◌≡◌, true, false};
 ghost use Rattle.hir_ids.specs.declared.ids.TypeId.TheVariants as type;
-ghost use Rattle.hir_skeleton.specs.Lowered.{carrier_of, opaque_skeleton, skeleton_of, slice_carries};
+ghost use Rattle.hir_skeleton.specs.Lowered.{carrier_of, opaque_skeleton, receiver_skeleton, skeleton_of, slice_carries};
 ghost use Rattle.hir_skeleton.specs.Inputs.{is_slice_type};
-ghost use Rattle.hir_borrowing_params.specs.inside.Parts.{input_skeleton, part_is_slice};
+ghost use Rattle.hir_parts.specs.Parts.{input_skeleton, part_is_slice};
 
-use hir_ids::{OpaqueOwner, Optional, TypeId};
+use hir_ids::{OpaqueOwner, Optional, StructId};
 use hir_life::{Lifetime, MaybeStatic};
-use hir_types::{HirType, OpaquePath, Slice, StructPath, TyPosition};
+use hir_types::{HirType, OpaquePath, SelfType, Slice, StructPath, TyPosition};
 
-/// What of a type a visit goes on with: what is in its options.
+/// What of a type decides from where something may be borrowed through it: of what is in its options.
 #[derive(Clone, Copy)]
-pub(crate) enum InputPart<'p> {
+pub enum InputPart<'p> {
     /// Whether it is a slice, and the lifetimes that are carried: its own, that of its elements,
     /// and those that these give their definition. An opaque is its own element. What can't be
     /// borrowed from has none of them.
@@ -23,7 +23,7 @@ pub(crate) enum InputPart<'p> {
         &'p [MaybeStatic<Lifetime>],
     ),
     /// A struct, with the lifetimes that it is given.
-    Struct(TypeId, &'p [MaybeStatic<Lifetime>]),
+    Struct(StructId, &'p [MaybeStatic<Lifetime>]),
 }
 
 /// The part of an opaque. One in a box can't be borrowed from.
@@ -71,20 +71,34 @@ fn slice_part<P: TyPosition<StructPath = StructPath>>(slice: &Slice<P>) -> Input
 }
 
 /// The part of a type.
-pub(crate) fn input_part<P: TyPosition<StructPath = StructPath>>(ty: &HirType<P>) -> InputPart<'_>
+pub fn input_part<P: TyPosition<StructPath = StructPath>>(ty: &HirType<P>) -> InputPart<'_>
     ensures skeleton { input_skeleton result ≡ skeleton_of P.OpaqueOwnership.borrow_of
         (λ path. type.Struct path.tcx_id) (λ path. path.lifetimes) (λ path. path.owner) ty.now }
     ensures slice { part_is_slice result ≡ is_slice_type ty.now }
 {
     match ty {
         HirType::Opaque(path) => opaque_part(path),
-        HirType::Struct(path) => InputPart::Struct(
-            TypeId::Struct(path.tcx_id),
-            path.lifetimes.as_slice(),
-        ),
+        HirType::Struct(path) => InputPart::Struct(path.tcx_id, path.lifetimes.as_slice()),
         HirType::Slice(slice) => slice_part(slice),
         HirType::DiplomatOption(inner) => input_part(inner.get()),
         HirType::Primitive(_) | HirType::ImplTrait(_) | HirType::Enum(_) | HirType::Callback(_) =>
             InputPart::Carrier(false, None, None, &[]),
+    }
+}
+
+/// The part of a receiver.
+pub fn receiver_part(ty: &SelfType) -> InputPart<'_>
+    ensures skeleton { input_skeleton result ≡ receiver_skeleton ty.now }
+    ensures slice { part_is_slice result ≡ false }
+{
+    match ty {
+        SelfType::Opaque(path) => InputPart::Carrier(
+            false,
+            None,
+            Some(path.owner.lifetime),
+            path.lifetimes.as_slice(),
+        ),
+        SelfType::Struct(path) => InputPart::Struct(path.tcx_id, path.lifetimes.as_slice()),
+        SelfType::Enum(_) => InputPart::Carrier(false, None, None, &[]),
     }
 }
