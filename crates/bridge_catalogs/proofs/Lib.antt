@@ -1,0 +1,3 @@
+pub mod OnceLemmas
+pub mod OrderLemmas
+pub mod CatalogLemmas
