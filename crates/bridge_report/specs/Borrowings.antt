@@ -1,13 +1,13 @@
 -- What the result of a callable may borrow, under each lifetime that its return names: the leaves that carry the lifetime or one that
 -- outlives it, and the edges that hold inputs for it. In the example of `Callables` under 'a the only leaf is `mark.page`, and `mark` is
 -- held at both lifetimes of `Mark`; under 'b the leaf is the same, and `mark` is held at 'y alone.
-use Rattle.std.specs.Prelude.{◌≡◌, ◌<◌, ◌↔◌, ⊤, ℕ, zero, suc, List, [], ◌∷◌, map, Bool, true, false, All}
-use Rattle.std.specs.List.{AllZip, Contains, enumerate_from, filter, flat_map, list_any}
+use Rattle.std.specs.Prelude.{◌≡◌, ℕ, zero, suc, List, [], ◌∷◌, map, Bool, true, false}
+use Rattle.std.specs.List.{AllZip, enumerate_from, filter, flat_map, list_any}
 use Rattle.hir_life.specs.Environment.{longer_of}
-use Rattle.hir_life.specs.declared.maybe_static.MaybeStatic.TheVariants.{NonStatic}
 use Rattle.hir_skeleton.specs.Edges.{ShallowEdge, Whole, Position, shallow_edges}
 use Rattle.hir_skeleton.specs.Leaves.{TellsLonger, number_passes}
 use Rattle.hir_skeleton.specs.NamedLeaves.{NamedLeaf}
+use Rattle.hir_types.specs.Named.{ListsNumbers}
 use Rattle.bridge_report.specs.Callables.{Callable, CallableInput}
 use Rattle.bridge_report.specs.declared.report.CallableReport.{CallableReport}
 use Rattle.bridge_report.specs.declared.report.InputPlace.{InputPlace}
@@ -41,10 +41,14 @@ listed_leaves c test = filter (passes test) c.leaves
 
 -- ---- edges
 
--- what is held of an input that is a slice or isn't
+-- the whole of an input that is a slice or isn't
+abbrev pub whole_kind : Bool → ReportEdgeKind
+whole_kind true = kind.Slice
+whole_kind false = kind.Opaque
+
+-- what is held of it
 abbrev pub edge_kind : Bool → ShallowEdge (Unit {0}) → ReportEdgeKind
-edge_kind true Whole = kind.Slice
-edge_kind false Whole = kind.Opaque
+edge_kind slice Whole = whole_kind slice
 edge_kind slice (Position key d optional) = kind.Struct d optional
 
 -- the edges of the input of a number
@@ -59,15 +63,9 @@ held_edges c test = flat_map (input_edges c.receiver test) (enumerate_from 0 c.i
 
 -- ---- reports
 
--- the numbers rise from each to the next
-abbrev pub AreAscending : List ℕ → Type 0
-AreAscending [] = ⊤
-AreAscending (t ∷ ts) = All (λ u. t < u) ts × AreAscending ts
-
 -- the lifetimes that the return names but for 'static, ascending
-pub record AreReturnedNumbers (c : Callable) (numbers : List ℕ) : Type 0 where
-  pub ascending : AreAscending numbers
-  pub all : (t : ℕ) → Contains numbers t ↔ Contains c.named (NonStatic t)
+abbrev pub AreReturnedNumbers : Callable → List ℕ → Type 0
+AreReturnedNumbers c numbers = ListsNumbers numbers c.named
 
 -- what may be borrowed under t
 pub record IsReturned (c : Callable) (returned : ReturnedLifetime) (t : ℕ) : Type 0 where

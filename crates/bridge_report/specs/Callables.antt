@@ -2,7 +2,7 @@
 -- declarations, and it is the same: structs count without which they are. The example throughout is
 --     #[diplomat::opaque] pub struct Page<'a>(..);
 --     pub struct Mark<'x, 'y> { page: &'x Page<'y>, line: u32 }
---     impl<'y> Page<'y> { pub fn open<'a, 'b: 'a>(mark: DiplomatOption<Mark<'a, 'b>>) -> &'a Page<'b>; }
+--     impl Page<'_> { pub fn open<'a, 'b: 'a>(mark: DiplomatOption<Mark<'a, 'b>>) -> &'a Page<'b>; }
 use Rattle.std.specs.Prelude.{ℕ, List, Bool}
 use Rattle.hir_life.specs.Environment.{Environment}
 use Rattle.hir_life.specs.declared.maybe_static.MaybeStatic.{MaybeStatic}
@@ -32,7 +32,7 @@ pub record Callable : Type 0 where
   pub receiver : Bool
   -- its lifetimes with their bounds: 'a and 'b
   pub environment : Environment
-  -- the lifetimes that its return names, in order: 'a, and 'b
+  -- the lifetimes that its return names, in order: 'b, and then 'a
   pub named : List (MaybeStatic ℕ)
   -- its inputs, in order
   pub inputs : List CallableInput

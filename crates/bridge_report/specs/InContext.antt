@@ -1,10 +1,7 @@
 -- The callables of a context, in the order of its types: structs, out-structs, opaques, enums, and then functions.
-use Rattle.std.specs.Prelude.{ℕ, List, [], ◌∷◌, ◌++◌, Bool, false, true, Option, Some, None, cond, codes, map, option_map, slice_get, slice_index_or}
+use Rattle.std.specs.Prelude.{ℕ, List, [], ◌∷◌, ◌++◌, false, Option, Some, None, cond, codes, map, is_some, option_and_then, option_map, slice_get, slice_index_or}
 use Rattle.std.specs.List.{enumerate_from, flat_map}
-use Rattle.std.specs.Option.{option_and_then}
-use Rattle.hir_borrow.specs.Methods.{type_methods}
-use Rattle.hir_skeleton.specs.Inputs.{is_slice_type}
-use Rattle.hir_context.specs.Lookups.{DefinedType, InputStruct, OutputStruct, defined_at, module_path_at, name_at, type_methods}
+use Rattle.hir_context.specs.Lookups.{InputStruct, OutputStruct, defined_at, module_path_at, name_at, type_methods}
 use Rattle.hir_context.specs.declared.parts.Definitions.{Definitions}
 use Rattle.hir_definitions.specs.declared.definitions.EnumDef.{EnumDef}
 use Rattle.hir_definitions.specs.declared.definitions.OpaqueDef.{OpaqueDef}
@@ -44,23 +41,18 @@ receiver_input ty = record { name = receiver_name; skeleton = outline (receiver_
 
 abbrev pub param_input : Param → CallableInput
 param_input p =
-    record { name = p.name.0; skeleton = outline (param_skeleton p.ty); optional = is_option p.ty; slice = is_slice_type p.ty }
+    record { name = p.name; skeleton = outline (param_skeleton p.ty); optional = is_option p.ty; slice = is_slice_type p.ty }
 
 abbrev pub method_inputs : Method → List CallableInput
 method_inputs m = where_any (λ receiver. receiver_input receiver.ty ∷ []) m.param_self ++ map param_input m.params
 
 -- ---- callables
 
--- whether there is one
-abbrev pub is_there : {A : Type 0} → Option A → Bool
-is_there None = false
-is_there (Some x) = true
-
 abbrev pub callable_of : Definitions → CallableId → ErrorContext → Method → Callable
 callable_of defs id place m = record {
   id = id;
   place = place;
-  receiver = is_there m.param_self;
+  receiver = is_some m.param_self;
   environment = m.lifetime_env;
   named = lifetimes_named m.output;
   inputs = method_inputs m;

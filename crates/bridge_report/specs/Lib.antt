@@ -1,5 +1,7 @@
 pub mod Callables
 pub mod InContext
+pub mod Places
 pub mod Borrowings
 pub mod Page
 pub mod Limits
+pub mod inside

@@ -2,6 +2,7 @@
 use Rattle.std.specs.Prelude.{◌≡◌, ◌<◌, ℕ, List, [], ◌∷◌, length, cond, nat_lt}
 use Rattle.std.specs.List.{Contains, flat_map}
 use Rattle.hir_reports.specs.Store.{told_at}
+use Rattle.hir_reports.specs.Texts.{plain_error}
 use Rattle.hir_reports.specs.declared.places.ErrorContext.{ErrorContext}
 use Rattle.hir_reports.specs.declared.report.LoweringReport.{LoweringReport}
 use Rattle.hir_reports.specs.declared.rule.Rule.TheVariants as rule
@@ -13,7 +14,7 @@ most_leaves = 1048576
 
 -- the report of a callable there
 abbrev pub too_many_leaves : ErrorContext → LoweringReport
-too_many_leaves place = told_at place (record { rule = rule.TooManyLeaves; args = [] })
+too_many_leaves place = told_at place (plain_error rule.TooManyLeaves)
 
 -- TooManyLeaves: one of the callables has inputs with more leaves
 pub record LeavesBreak (callables : List Callable) (report : LoweringReport) : Type 0 where

@@ -6,7 +6,7 @@
 --       edges: struct mark 1
 --     ok 1
 -- where `mark` stands in an option, so that ` optional` follows each edge.
-use Rattle.std.specs.Prelude.{◌≡◌, ℕ, List, [], ◌∷◌, ◌++◌, ◌==◌, length, map, codes, decimal, true, false, Bool}
+use Rattle.std.specs.Prelude.{◌≡◌, ℕ, List, [], ◌++◌, ◌==◌, length, map, codes, decimal, true, false, Bool}
 use Rattle.std.specs.List.{AllZip, flat_map, join_by}
 use Rattle.hir_life.specs.Environment.{longer_of}
 use Rattle.hir_life.specs.Naming.{printed_name}
@@ -38,10 +38,14 @@ abbrev pub optional_text : Bool → List ℕ
 optional_text true = codes " optional"
 optional_text false = []
 
--- an edge of an input that has this name and is a slice or isn't
+-- the whole of an input that is a slice or isn't
+abbrev pub whole_text : Bool → List ℕ
+whole_text true = codes "slice "
+whole_text false = codes "opaque "
+
+-- an edge of an input that has this name
 abbrev pub edge_text : List ℕ → Bool → ShallowEdge (Unit {0}) → List ℕ
-edge_text name true Whole = codes "slice " ++ name
-edge_text name false Whole = codes "opaque " ++ name
+edge_text name slice Whole = whole_text slice ++ name
 edge_text name slice (Position key d optional) = codes "struct " ++ name ++ codes " " ++ decimal d ++ optional_text optional
 
 -- the edges of an input
