@@ -1,7 +1,7 @@
 -- Of each id in a list that gives callables there is a callable: so a loop over it may ask for its method.
-use Rattle.std.proofs.Common.{◌≡◌, ℕ, List, map, Option, Some, sym, ap, ◌∙◌, slice_get, option_map}
+use Rattle.std.proofs.Common.{◌≡◌, ◌<◌, ℕ, List, map, Option, Some, get_or, length, refl, sym, ap, ◌∙◌, slice_get, option_map}
 use Rattle.std.specs.Prelude.{IsSome, is_some}
-use Rattle.std.proofs.lemmas.Option.{slice_get-map}
+use Rattle.std.proofs.lemmas.Option.{slice_get-map, slice_get_read}
 use Rattle.hir_context.specs.declared.parts.Definitions.{Definitions}
 use Rattle.hir_context.proofs.Places.{made_of}
 use Rattle.bridge_report.specs.Callables.{Callable}
@@ -26,3 +26,7 @@ module _ (defs : Definitions) (ids : List CallableId) (all : map (callable_at de
   -- so there is one
   pub listed_there : (n : ℕ) (id : CallableId) → slice_get ids n ≡ Some id → IsSome (callable_at defs id)
   listed_there n id at = ap is_some (listed_callable n id at).2
+
+  -- as a loop over the ids reads them
+  pub read_there : (n : ℕ) (id : CallableId) → n < length ids → id ≡ get_or ids n id → IsSome (callable_at defs id)
+  read_there n id within is = listed_there n id (slice_get_read ids (length ids) n id refl within is)
