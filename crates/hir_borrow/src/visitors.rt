@@ -2,11 +2,11 @@
 
 ghost use Rattle.std.specs.Prelude.{◌≡◌, ◌↔◌, ℕ, Some, IfOk, IsSome};
 ghost use Rattle.hir_context.specs.Fitness.{MethodFits};
-ghost use Rattle.hir_borrowing_fields.specs.NamedLeaves.{borrowing_leaves};
 ghost use Rattle.hir_borrowing_params.specs.Edges.{HeldFor};
 ghost use Rattle.hir_borrowing_params.specs.Keys.{IsStart};
 ghost use Rattle.hir_borrowing_params.specs.Slices.{IsKept};
 ghost use Rattle.hir_borrowing_params.specs.Visitors.{kept_under, visited_definitions};
+ghost use Rattle.hir_skeleton.specs.NamedLeaves.{borrowing_leaves};
 
 use bridge_decl::{IdentBuf, NoMemory};
 use hir_borrowing_fields::BorrowingFieldVisitor;

@@ -1,5 +1,5 @@
 -- Whether a struct has leaves doesn't depend on what it is given.
-use Rattle.std.proofs.Common.{◌≡◌, ℕ, zero, suc, Bool, true, ◌||◌, subst, List, [], ◌∷◌, length, map, refl, sym, arith, length-append}
+use Rattle.std.proofs.Common.{◌≡◌, ◌+◌, ℕ, zero, suc, Bool, true, ◌||◌, subst, List, [], ◌∷◌, length, map, refl, sym, arith, length-append}
 use Rattle.std.specs.BTreeSet.{insert_key}
 use Rattle.std.specs.Ordering.{is_eq, nat_cmp, ordering_then, match_ordering}
 use Rattle.std.specs.declared.cmp.Ordering.{Ordering}
@@ -9,11 +9,11 @@ use Rattle.std.specs.List.{All, list_any}
 use Rattle.std.proofs.lemmas.List.{length-map}
 use Rattle.std.proofs.lemmas.Map.Lookups.{exact_unsigned}
 use Rattle.std.proofs.lemmas.List.Elements.{All-head, All-tail, All-cons, All-nil}
-use Rattle.hir_borrowing_fields.specs.NamedLeaves.{NamedLeaf}
+use Rattle.hir_skeleton.specs.NamedLeaves.{NamedLeaf}
 use Rattle.hir_life.specs.declared.maybe_static.MaybeStatic.{MaybeStatic}
 use Rattle.hir_life.specs.Substitution.{subst_each}
 use Rattle.hir_skeleton.specs.Skeletons.{Skeleton, Nothing, Carrier, Struct}
-use Rattle.hir_borrowing_fields.specs.inside.Walks.{NamedSkeleton, behind, leaves_of_each, leaves_of_struct, leaves_of_type}
+use Rattle.hir_borrowing_fields.specs.inside.Walks.{NamedSkeleton, behind, leaves_from, leaves_of_struct, leaves_of_type, step_into}
 
 module _ {K : Type 0} (named_in : K → List (NamedSkeleton K)) where
   -- as many leaves whatever is given
@@ -25,20 +25,21 @@ module _ {K : Type 0} (named_in : K → List (NamedSkeleton K)) where
   of_type n claim args other (Carrier ls) = refl
   of_type n claim args other (Struct key given) = claim key (subst_each given args) (subst_each given other)
 
-  of_each : (f g : Skeleton K → List NamedLeaf) → ((s : Skeleton K) → length (f s) ≡ length (g s)) → (fields : List (NamedSkeleton K)) → length (leaves_of_each f fields) ≡ length (leaves_of_each g fields)
-  of_each f g same [] = refl
-  of_each f g same (one ∷ fields) =
-      let first = length-append (map (behind (one.name ∷ [])) (f one.skeleton)) (leaves_of_each f fields) in
-      let second = length-append (map (behind (one.name ∷ [])) (g one.skeleton)) (leaves_of_each g fields) in
-      let here = length-map (f one.skeleton) (behind (one.name ∷ [])) in
-      let there = length-map (g one.skeleton) (behind (one.name ∷ [])) in
+  of_each : (f g : Skeleton K → List NamedLeaf) → ((s : Skeleton K) → length (f s) ≡ length (g s)) → (m : ℕ) (fields : List (NamedSkeleton K)) → length (leaves_from m f fields) ≡ length (leaves_from m g fields)
+  of_each f g same m [] = refl
+  of_each f g same m (one ∷ fields) =
+      let step = step_into (m, one) in
+      let first = length-append (map (behind (step ∷ [])) (f one.skeleton)) (leaves_from (m + 1) f fields) in
+      let second = length-append (map (behind (step ∷ [])) (g one.skeleton)) (leaves_from (m + 1) g fields) in
+      let here = length-map (f one.skeleton) (behind (step ∷ [])) in
+      let there = length-map (g one.skeleton) (behind (step ∷ [])) in
       let like = same one.skeleton in
-      let rest = of_each f g same fields in
+      let rest = of_each f g same (m + 1) fields in
       omega (arith, first, second, here, there, like, rest)
 
   more : (n : ℕ) → AsMany n → AsMany (suc n)
   more n claim key args other =
-      of_each (leaves_of_type (leaves_of_struct named_in n) args) (leaves_of_type (leaves_of_struct named_in n) other) (of_type n claim args other) (named_in key)
+      of_each (leaves_of_type (leaves_of_struct named_in n) args) (leaves_of_type (leaves_of_struct named_in n) other) (of_type n claim args other) 0 (named_in key)
 
   pub as_many : (n : ℕ) → AsMany n
   as_many zero = λ key args other. refl

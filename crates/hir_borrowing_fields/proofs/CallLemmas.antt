@@ -3,7 +3,8 @@ use Rattle.std.proofs.Common.{◌≡◌, ◌<◌, ◌+◌, ℕ, List, [], ◌∷
 use Rattle.std.specs.List.{FoldsTo}
 use Rattle.std.proofs.lemmas.Fn.{FoldsTo-push}
 use Rattle.std.proofs.lemmas.List.{flat_map_more, map-append, take_more}
-use Rattle.hir_borrowing_fields.specs.NamedLeaves.{NamedLeaf, leaf_at, lifetimes_with_leaves}
+use Rattle.hir_skeleton.specs.NamedLeaves.{NamedLeaf}
+use Rattle.hir_borrowing_fields.specs.NamedLeaves.{leaf_at, lifetimes_with_leaves}
 use Rattle.hir_life.specs.declared.maybe_static.MaybeStatic.{MaybeStatic}
 
 -- calls at two lists in a row are calls at both as one
@@ -26,5 +27,5 @@ visited_next R leaves i carried first last next within is before here =
     subst (λ ys. FoldsTo R first ys next)
     (ap (λ ls. lifetimes_with_leaves (take i leaves) ++ map (λ l. (l, leaf_at leaves i)) ls) is
     ∙ flat_map_more (λ leaf. map (λ l. (l, leaf)) leaf.carried) [] (take i leaves) (leaf_at leaves i)
-    ∙ ap lifetimes_with_leaves (sym (take_more leaves i (record { names = []; carried = [] }) within)))
+    ∙ ap lifetimes_with_leaves (sym (take_more leaves i (record { path = []; names = []; carried = [] }) within)))
     (folds_on R first last next (lifetimes_with_leaves (take i leaves)) (map (λ l. (l, leaf_at leaves i)) carried) before here)

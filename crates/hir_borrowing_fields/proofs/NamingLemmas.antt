@@ -1,4 +1,4 @@
--- The leaves that a walk finds are those of the inputs, with the names of their paths.
+-- The leaves that a walk finds are those of the inputs, with their paths and the names of these.
 use Rattle.std.proofs.Common.{◌≡◌, ◌+◌, ℕ, zero, suc, List, [], ◌∷◌, ◌++◌, Bool, true, false, cond, map, Option, Some, None, slice_get, option_map, refl, sym, ap, ◌∙◌, arith}
 use Rattle.std.specs.List.{enumerate_from, flat_map}
 use Rattle.std.proofs.lemmas.List.{map-append}
@@ -16,16 +16,17 @@ use Rattle.hir_skeleton.specs.Leaves.{DeepLeaf, from_fields, in_field, struct_le
 use Rattle.hir_context.specs.Lookups.{InputStruct}
 use Rattle.hir_skeleton.specs.Lowered.{field_skeleton, input_fields, receiver_skeleton}
 use Rattle.hir_skeleton.specs.Inputs.{field_names, fields_in, input_names, input_struct, method_inputs, param_skeleton, path_names}
-use Rattle.hir_borrowing_fields.specs.NamedLeaves.{NamedLeaf, leaf_named, borrowing_leaves}
-use Rattle.hir_borrowing_fields.specs.inside.Walks.{InputField, NamedSkeleton, behind, leaves_of_each, named_field, named_fields, named_fields_in, named_inputs, named_param, named_receiver, walked_struct, walked_type}
+use Rattle.hir_skeleton.specs.NamedLeaves.{NamedLeaf, leaf_named, borrowing_leaves}
+use Rattle.hir_borrowing_fields.specs.inside.Places.{Step}
+use Rattle.hir_borrowing_fields.specs.inside.Walks.{InputField, NamedSkeleton, behind, leaves_from, named_field, named_fields, named_fields_in, named_inputs, named_param, named_receiver, step_into, walked_struct, walked_type}
 
--- a leaf behind a name, as a leaf in the field of that name
-behind_is_in : (name : List ℕ) (m : ℕ) (inner names : List ℕ → List (List ℕ)) → ((rest : List ℕ) → names (m ∷ rest) ≡ name ∷ inner rest) → (leaves : List DeepLeaf)
-    → map (behind (name ∷ [])) (map (leaf_named inner) leaves) ≡ map (leaf_named names) (map (in_field m) leaves)
-behind_is_in name m inner names same [] = refl
-behind_is_in name m inner names same (leaf ∷ leaves) =
-    ap (λ some. record { names = some; carried = leaf.carried } ∷ map (behind (name ∷ [])) (map (leaf_named inner) leaves)) (sym (same leaf.path))
-    ∙ ap (λ rest. leaf_named names (in_field m leaf) ∷ rest) (behind_is_in name m inner names same leaves)
+-- a leaf behind the step into a field, as a leaf in the field of that number and name
+behind_is_in : (step : Step) (inner names : List ℕ → List (List ℕ)) → ((rest : List ℕ) → names (step.number ∷ rest) ≡ step.name ∷ inner rest) → (leaves : List DeepLeaf)
+    → map (behind (step ∷ [])) (map (leaf_named inner) leaves) ≡ map (leaf_named names) (map (in_field step.number) leaves)
+behind_is_in step inner names same [] = refl
+behind_is_in step inner names same (leaf ∷ leaves) =
+    ap (λ some. record { path = step.number ∷ leaf.path; names = some; carried = leaf.carried } ∷ map (behind (step ∷ [])) (map (leaf_named inner) leaves)) (sym (same leaf.path))
+    ∙ ap (λ rest. leaf_named names (in_field step.number leaf) ∷ rest) (behind_is_in step inner names same leaves)
 
 -- the names of these, from the number m on, are those that paths from there have
 abbrev pub NamesFrom : {K : Type 0} → (Skeleton K → List ℕ → List (List ℕ)) → (List ℕ → List (List ℕ)) → ℕ → List (NamedSkeleton K) → Type 0
@@ -33,13 +34,13 @@ NamesFrom {K} inner names m all = (j : ℕ) (one : NamedSkeleton K) → slice_ge
 
 module _ {K : Type 0} (inner : Skeleton K → List ℕ → List (List ℕ)) (f : Skeleton K → List DeepLeaf) (g : Skeleton K → List NamedLeaf) (same : (s : Skeleton K) → g s ≡ map (leaf_named (inner s)) (f s)) where
   pub named_each : (names : List ℕ → List (List ℕ)) (m : ℕ) (all : List (NamedSkeleton K)) → NamesFrom inner names m all
-      → leaves_of_each g all ≡ map (leaf_named names) (flat_map (λ field. map (in_field field.0) (f field.1)) (enumerate_from m (map (λ one. one.skeleton) all)))
+      → leaves_from m g all ≡ map (leaf_named names) (flat_map (λ field. map (in_field field.0) (f field.1)) (enumerate_from m (map (λ one. one.skeleton) all)))
   named_each names m [] named = refl
   named_each names m (one ∷ all) named =
       let first : m + 0 ≡ m = omega arith in
       let rest = flat_map (λ field. map (in_field field.0) (f field.1)) (enumerate_from (m + 1) (map (λ (o : NamedSkeleton K). o.skeleton) all)) in
-      ap (λ leaves. map (behind (one.name ∷ [])) leaves ++ leaves_of_each g all) (same one.skeleton)
-      ∙ ap (λ leaves. leaves ++ leaves_of_each g all) (behind_is_in one.name m (inner one.skeleton) names (λ path. ap (λ k. names (k ∷ path)) (sym first) ∙ named 0 one refl path) (f one.skeleton))
+      ap (λ leaves. map (behind (step_into (m, one) ∷ [])) leaves ++ leaves_from (m + 1) g all) (same one.skeleton)
+      ∙ ap (λ leaves. leaves ++ leaves_from (m + 1) g all) (behind_is_in (step_into (m, one)) (inner one.skeleton) names (λ path. ap (λ k. names (k ∷ path)) (sym first) ∙ named 0 one refl path) (f one.skeleton))
       ∙ ap (λ leaves. map (leaf_named names) (map (in_field m) (f one.skeleton)) ++ leaves)
       (named_each names (m + 1) all (λ j other at path. let next : m + 1 + j ≡ m + suc j = omega arith in ap (λ k. names (k ∷ path)) next ∙ named (suc j) other at path))
       ∙ sym (map-append (leaf_named names) (map (in_field m) (f one.skeleton)) rest)
@@ -137,7 +138,7 @@ module _ (defs : Definitions) where
         ∙ ap (λ s. one.name ∷ where_any (field_names defs rest) s) (skeleton_at (named_inputs self_name m) (method_inputs m) i one inputs_skeletons at)
 
     -- the leaves that a walk finds
-    pub method_named : leaves_of_each (walked_type defs 256 (identity m.lifetime_env.count)) (named_inputs self_name m) ≡ borrowing_leaves defs self_name m
+    pub method_named : leaves_from 0 (walked_type defs 256 (identity m.lifetime_env.count)) (named_inputs self_name m) ≡ borrowing_leaves defs self_name m
     method_named =
         named_each inner_names (type_leaves (struct_leaves (fields_in defs) 256) (identity m.lifetime_env.count)) (walked_type defs 256 (identity m.lifetime_env.count)) (types_named 256 (structs_named 256) (identity m.lifetime_env.count)) (path_names defs self_name m) 0
         (named_inputs self_name m) inputs_named

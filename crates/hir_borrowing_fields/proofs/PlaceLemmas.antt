@@ -1,7 +1,7 @@
--- Places as they grow, and the names that lead to them.
+-- Places as they grow, and the steps that lead to them.
 use Rattle.std.proofs.Common.{◌≡◌, ◌<◌, ◌≤◌, ◌+◌, ◌-◌, ℕ, zero, suc, List, [], ◌∷◌, ◌++◌, length, take, drop, get_or, Option, Some, None, slice_get, refl, sym, ap, subst, ◌∙◌, arith, append_assoc, length-append, length-take-le}
 use Rattle.std.specs.List.{FoldsTo, enumerate_from}
-use Rattle.std.proofs.lemmas.List.{get_or_append_left, take_more}
+use Rattle.std.proofs.lemmas.List.{get_or_append_left, length-map, map-append, take_more}
 use Rattle.std.proofs.lemmas.Fn.{FoldsTo-push}
 use Rattle.std.proofs.lemmas.Option.{none-some, same_Some}
 use Rattle.std.proofs.Math.ListN.{drop_of_length-le}
@@ -9,29 +9,29 @@ use Rattle.std.proofs.Math.Seq.{get_or-append_seam}
 use Rattle.std.specs.Prelude.{codes}
 use Rattle.bridge_decl.specs.Names.{joined}
 use Rattle.hir_borrowing_fields.specs.declared.places.Place.{Place}
-use Rattle.hir_borrowing_fields.specs.inside.Places.{AreRooted, IsAbove, HasNameIn, IsPlaceIn, IsRootedAt, names_at, names_of_places, names_with_places}
+use Rattle.hir_borrowing_fields.specs.inside.Places.{AreRooted, IsAbove, HasStepIn, IsPlaceIn, IsRootedAt, Step, own_step, step_names, steps_at, steps_to, ways_to, ways_with}
 
--- the names of one place more
-abbrev pub names_with : List (List (List ℕ)) → Place → List (List (List ℕ))
-names_with names place = names ++ (names_at names place.parent ++ place.name.now ∷ []) ∷ []
+-- the ways to one place more
+abbrev pub with_way_to : List (List Step) → Place → List (List Step)
+with_way_to ways place = ways ++ steps_to ways place ∷ []
 
-pub places_more : (names : List (List (List ℕ))) (places : List Place) (place : Place) → names_with_places names (places ++ place ∷ []) ≡ names_with (names_with_places names places) place
-places_more names [] place = refl
-places_more names (p ∷ places) place = places_more (names_with names p) places place
+pub places_more : (ways : List (List Step)) (places : List Place) (place : Place) → ways_with ways (places ++ place ∷ []) ≡ with_way_to (ways_with ways places) place
+places_more ways [] place = refl
+places_more ways (p ∷ places) place = places_more (with_way_to ways p) places place
 
-one_longer : (names : List (List (List ℕ))) (place : Place) → length (names_with names place) ≡ length names + 1
-one_longer names place = length-append names ((names_at names place.parent ++ place.name.now ∷ []) ∷ [])
+one_longer : (ways : List (List Step)) (place : Place) → length (with_way_to ways place) ≡ length ways + 1
+one_longer ways place = length-append ways (steps_to ways place ∷ [])
 
-pub length_places : (names : List (List (List ℕ))) (places : List Place) → length (names_with_places names places) ≡ length names + length places
-length_places names [] = omega arith
-length_places names (p ∷ places) =
-    let more = length_places (names_with names p) places in
-    let one = one_longer names p in
+pub length_places : (ways : List (List Step)) (places : List Place) → length (ways_with ways places) ≡ length ways + length places
+length_places ways [] = omega arith
+length_places ways (p ∷ places) =
+    let more = length_places (with_way_to ways p) places in
+    let one = one_longer ways p in
     omega (arith, more, one)
 
-pub rooted_in : (names : List (List (List ℕ))) (k : ℕ) (parent : Option ℕ) → length names ≡ k → IsPlaceIn names parent → IsRootedAt k parent
-rooted_in names k None long within = tt
-rooted_in names k (Some parent) long within = omega (arith, long, within)
+pub rooted_in : (ways : List (List Step)) (k : ℕ) (parent : Option ℕ) → length ways ≡ k → IsPlaceIn ways parent → IsRootedAt k parent
+rooted_in ways k None long within = tt
+rooted_in ways k (Some parent) long within = omega (arith, long, within)
 
 pub rooted_more : (k : ℕ) (places : List Place) (place : Place) → AreRooted k places → IsRootedAt (k + length places) place.parent → AreRooted k (places ++ place ∷ [])
 rooted_more k [] place all one =
@@ -41,42 +41,42 @@ rooted_more k (p ∷ places) place all one =
     let same : k + suc (length places) ≡ suc k + length places = omega arith in
     (all.0, rooted_more (suc k) places place all.1 (subst (λ n. IsRootedAt n place.parent) same one))
 
--- the names of the first places stay
-pub names_kept : (names : List (List (List ℕ))) (places : List Place) (k : ℕ) → k < length names → get_or (names_with_places names places) k [] ≡ get_or names k []
-names_kept names [] k within = refl
-names_kept names (p ∷ places) k within =
-    let one = one_longer names p in
-    names_kept (names_with names p) places k (omega (arith, within, one))
-    ∙ get_or_append_left names _ [] k within
+-- the ways to the first places stay
+pub ways_kept : (ways : List (List Step)) (places : List Place) (k : ℕ) → k < length ways → get_or (ways_with ways places) k [] ≡ get_or ways k []
+ways_kept ways [] k within = refl
+ways_kept ways (p ∷ places) k within =
+    let one = one_longer ways p in
+    ways_kept (with_way_to ways p) places k (omega (arith, within, one))
+    ∙ get_or_append_left ways _ [] k within
 
-fronts_kept : (names : List (List (List ℕ))) (places : List Place) (parent : Option ℕ) → IsRootedAt (length names) parent → names_at names parent ≡ names_at (names_with_places names places) parent
-fronts_kept names places None within = refl
-fronts_kept names places (Some parent) within = sym (names_kept names places parent within)
+fronts_kept : (ways : List (List Step)) (places : List Place) (parent : Option ℕ) → IsRootedAt (length ways) parent → steps_at ways parent ≡ steps_at (ways_with ways places) parent
+fronts_kept ways places None within = refl
+fronts_kept ways places (Some parent) within = sym (ways_kept ways places parent within)
 
-names_later : (names : List (List (List ℕ))) (places : List Place) (i : ℕ) (place : Place) → AreRooted (length names) places → slice_get places i ≡ Some place
-    → get_or (names_with_places names places) (length names + i) [] ≡ names_at (names_with_places names places) place.parent ++ place.name.now ∷ []
-names_later names [] i place all at = absurd (none-some place at)
-names_later names (p ∷ places) zero place all at =
-    let one = one_longer names p in
-    let same : length names + 0 ≡ length names = omega arith in
-    ap (λ k. get_or (names_with_places (names_with names p) places) k []) same
-    ∙ names_kept (names_with names p) places (length names) (omega (arith, one))
-    ∙ get_or-append_seam names _ [] []
-    ∙ ap (λ front. front ++ p.name.now ∷ []) (fronts_kept names (p ∷ places) p.parent all.0)
-    ∙ ap (λ (q : Place). names_at (names_with_places names (p ∷ places)) q.parent ++ q.name.now ∷ []) (same_Some p place at)
-names_later names (p ∷ places) (suc i) place all at =
-    let one = one_longer names p in
-    let long : length (names_with names p) ≡ suc (length names) = omega (arith, one) in
-    let same : length names + suc i ≡ length (names_with names p) + i = omega (arith, one) in
-    ap (λ k. get_or (names_with_places (names_with names p) places) k []) same
-    ∙ names_later (names_with names p) places i place (subst (λ n. AreRooted n places) (sym long) all.1) at
+ways_later : (ways : List (List Step)) (places : List Place) (i : ℕ) (place : Place) → AreRooted (length ways) places → slice_get places i ≡ Some place
+    → get_or (ways_with ways places) (length ways + i) [] ≡ steps_to (ways_with ways places) place
+ways_later ways [] i place all at = absurd (none-some place at)
+ways_later ways (p ∷ places) zero place all at =
+    let one = one_longer ways p in
+    let same : length ways + 0 ≡ length ways = omega arith in
+    ap (λ k. get_or (ways_with (with_way_to ways p) places) k []) same
+    ∙ ways_kept (with_way_to ways p) places (length ways) (omega (arith, one))
+    ∙ get_or-append_seam ways _ [] []
+    ∙ ap (λ front. front ++ own_step p ∷ []) (fronts_kept ways (p ∷ places) p.parent all.0)
+    ∙ ap (λ (q : Place). steps_to (ways_with ways (p ∷ places)) q) (same_Some p place at)
+ways_later ways (p ∷ places) (suc i) place all at =
+    let one = one_longer ways p in
+    let long : length (with_way_to ways p) ≡ suc (length ways) = omega (arith, one) in
+    let same : length ways + suc i ≡ length (with_way_to ways p) + i = omega (arith, one) in
+    ap (λ k. get_or (ways_with (with_way_to ways p) places) k []) same
+    ∙ ways_later (with_way_to ways p) places i place (subst (λ n. AreRooted n places) (sym long) all.1) at
 
--- the names of a place are those of the place that it stands in, and its own
-pub names_read : (places : List Place) (i : ℕ) (place : Place) → AreRooted 0 places → slice_get places i ≡ Some place
-    → get_or (names_of_places places) i [] ≡ names_at (names_of_places places) place.parent ++ place.name.now ∷ []
-names_read places i place all at =
+-- the steps to a place are those to the place that it stands in, and its own
+pub ways_read : (places : List Place) (i : ℕ) (place : Place) → AreRooted 0 places → slice_get places i ≡ Some place
+    → get_or (ways_to places) i [] ≡ steps_to (ways_to places) place
+ways_read places i place all at =
     let same : i ≡ 0 + i = omega arith in
-    ap (λ k. get_or (names_of_places places) k []) same ∙ names_later [] places i place all at
+    ap (λ k. get_or (ways_to places) k []) same ∙ ways_later [] places i place all at
 
 rooted_later : (k : ℕ) (places : List Place) (i : ℕ) (place : Place) → AreRooted k places → slice_get places i ≡ Some place → IsRootedAt (k + i) place.parent
 rooted_later k [] i place all at = absurd (none-some place at)
@@ -92,9 +92,9 @@ rooted_read places i place all at =
     let same : 0 + i ≡ i = omega arith in
     subst (λ n. IsRootedAt n place.parent) same (rooted_later 0 places i place all at)
 
-pub within_before : (names : List (List (List ℕ))) (k : ℕ) (parent : Option ℕ) → k < length names → IsRootedAt k parent → IsPlaceIn names parent
-within_before names k None within rooted = tt
-within_before names k (Some parent) within rooted = omega (arith, within, rooted)
+pub within_before : (ways : List (List Step)) (k : ℕ) (parent : Option ℕ) → k < length ways → IsRootedAt k parent → IsPlaceIn ways parent
+within_before ways k None within rooted = tt
+within_before ways k (Some parent) within rooted = omega (arith, within, rooted)
 
 -- the names with their numbers
 pub numbered_more : {A : Type 0} (m : ℕ) (xs : List A) (x : A) → enumerate_from m (xs ++ x ∷ []) ≡ enumerate_from m xs ++ (m + length xs, x) ∷ []
@@ -137,9 +137,9 @@ length_numbered m [] = refl
 length_numbered m (name ∷ names) = ap suc (length_numbered (m + 1) names)
 
 -- the calls that are still to come from a name on
-pub comes_next : (names : List (List ℕ)) (number up : ℕ) (here front : List (List ℕ)) (name : List ℕ) → number < length names → up ≡ length names - 1 - number → IsAbove names up here → here ≡ front ++ name ∷ []
+comes_after : (names : List (List ℕ)) (number up : ℕ) (here front : List (List ℕ)) (name : List ℕ) → number < length names → up ≡ length names - 1 - number → IsAbove names up here → here ≡ front ++ name ∷ []
     → drop number (enumerate_from 0 names) ≡ (number, name) ∷ drop (number + 1) (enumerate_from 0 names)
-comes_next names number up here front name within is above ends =
+comes_after names number up here front name within is above ends =
     let count : number + 1 + up ≡ length names = omega (arith, within, is) in
     let same : 0 + number ≡ number = omega arith in
     let next : suc number ≡ number + 1 = omega arith in
@@ -148,43 +148,65 @@ comes_next names number up here front name within is above ends =
     ∙ ap (λ x. (number, x) ∷ drop (suc number) (enumerate_from 0 names)) (name_at_number names number up here front name above count ends)
     ∙ ap (λ k. (number, name) ∷ drop k (enumerate_from 0 names)) next
 
+-- the names along the steps that are above a place
+names_above : (steps : List Step) (up : ℕ) (here : List Step) → IsAbove steps up here → IsAbove (step_names steps) up (step_names here)
+names_above steps up here (rest, is, long) = (step_names rest, ap step_names is ∙ map-append (λ s. s.name) here rest, length-map rest (λ s. s.name) ∙ long)
+
+pub names_end : (here front : List Step) (step : Step) → here ≡ front ++ step ∷ [] → step_names here ≡ step_names front ++ step.name ∷ []
+names_end here front step ends = ap step_names ends ∙ map-append (λ s. s.name) front (step ∷ [])
+
+pub comes_next : (steps : List Step) (number up : ℕ) (here front : List Step) (step : Step) → number < length steps → up ≡ length steps - 1 - number → IsAbove steps up here → here ≡ front ++ step ∷ []
+    → drop number (enumerate_from 0 (step_names steps)) ≡ (number, step.name) ∷ drop (number + 1) (enumerate_from 0 (step_names steps))
+comes_next steps number up here front step within is above ends =
+    let long = length-map steps (λ s. s.name) in
+    comes_after (step_names steps) number up (step_names here) (step_names front) step.name (omega (arith, long, within)) (omega (arith, long, is)) (names_above steps up here above) (names_end here front step ends)
+
 -- no calls are left after the last name
-pub none_left : (names : List (List ℕ)) (number : ℕ) → length names ≤ number → drop number (enumerate_from 0 names) ≡ []
-none_left names number over =
-    let long = length_numbered 0 names in
-    drop_of_length-le (enumerate_from 0 names) (omega (arith, long, over))
+pub none_left : (steps : List Step) (number : ℕ) → length steps ≤ number → drop number (enumerate_from 0 (step_names steps)) ≡ []
+none_left steps number over =
+    let long = length_numbered 0 (step_names steps) in
+    let named = length-map steps (λ s. s.name) in
+    drop_of_length-le (enumerate_from 0 (step_names steps)) (omega (arith, long, named, over))
 
 -- calls at the names with their numbers, one more
-pub called_more : {F : Type 0} (R : F → ℕ × List ℕ → F → Type 0) (names : List (List ℕ)) (number up : ℕ) (here front : List (List ℕ)) (name : List ℕ) (first last next : F)
+called_after : {F : Type 0} (R : F → ℕ × List ℕ → F → Type 0) (names : List (List ℕ)) (number up : ℕ) (here front : List (List ℕ)) (name : List ℕ) (first last next : F)
     → number < length names → up ≡ length names - 1 - number → IsAbove names up here → here ≡ front ++ name ∷ []
     → FoldsTo R first (enumerate_from 0 (take number names)) last → R last (number, name) next → FoldsTo R first (enumerate_from 0 (take (number + 1) names)) next
-called_more R names number up here front name first last next within is above ends before call =
+called_after R names number up here front name first last next within is above ends before call =
     let count : number + 1 + up ≡ length names = omega (arith, within, is) in
     let long : 0 + length (take number names) ≡ number = omega (arith, length-take-le number names (omega (arith, within))) in
     let step : R last (0 + length (take number names), name) next = subst (λ n. R last (n, name) next) (sym long) call in
     subst (λ xs. FoldsTo R first (enumerate_from 0 xs) next) (sym (name_of_above names number up here front name above count ends))
     (subst (λ xs. FoldsTo R first xs next) (sym (numbered_more 0 (take number names) name)) (FoldsTo-push R first (enumerate_from 0 (take number names)) last (0 + length (take number names), name) next before step))
 
+pub called_more : {F : Type 0} (R : F → ℕ × List ℕ → F → Type 0) (steps : List Step) (number up : ℕ) (here front : List Step) (step : Step) (first last next : F)
+    → number < length steps → up ≡ length steps - 1 - number → IsAbove steps up here → here ≡ front ++ step ∷ []
+    → FoldsTo R first (enumerate_from 0 (take number (step_names steps))) last → R last (number, step.name) next → FoldsTo R first (enumerate_from 0 (take (number + 1) (step_names steps))) next
+called_more R steps number up here front step first last next within is above ends before call =
+    let long = length-map steps (λ s. s.name) in
+    called_after R (step_names steps) number up (step_names here) (step_names front) step.name first last next (omega (arith, long, within)) (omega (arith, long, is)) (names_above steps up here above)
+    (names_end here front step ends) before call
+
 some_within : (places : List Place) (k : ℕ) → k < length places → slice_get places k ≡ None → ⊥
 some_within [] k within is = omega (arith, within)
 some_within (p ∷ places) zero within is = none-some p (sym is)
 some_within (p ∷ places) (suc k) within is = some_within places k (omega (arith, within)) is
 
--- some name leads to each place
-named_within : (places : List Place) (k : ℕ) → AreRooted 0 places → k < length places → 0 < length (get_or (names_of_places places) k [])
-named_within places k all within = named_read places k (slice_get places k) refl all within
+-- some step leads to each place
+stepped_within : (places : List Place) (k : ℕ) → AreRooted 0 places → k < length places → 0 < length (get_or (ways_to places) k [])
+stepped_within places k all within = stepped_read places k (slice_get places k) refl all within
   where
-    named_read : (places : List Place) (k : ℕ) (at : Option Place) → slice_get places k ≡ at → AreRooted 0 places → k < length places → 0 < length (get_or (names_of_places places) k [])
-    named_read places k None is all within = absurd (some_within places k within is)
-    named_read places k (Some place) is all within =
-        let ends = ap length (names_read places k place all is) in
-        let long = length-append (names_at (names_of_places places) place.parent) (place.name.now ∷ []) in
+    stepped_read : (places : List Place) (k : ℕ) (at : Option Place) → slice_get places k ≡ at → AreRooted 0 places → k < length places → 0 < length (get_or (ways_to places) k [])
+    stepped_read places k None is all within = absurd (some_within places k within is)
+    stepped_read places k (Some place) is all within =
+        let ends = ap length (ways_read places k place all is) in
+        let long = length-append (steps_at (ways_to places) place.parent) (own_step place ∷ []) in
         omega (arith, ends, long)
 
-pub named_parent : (places : List Place) (names : List (List (List ℕ))) (k : ℕ) (parent : Option ℕ) → names_of_places places ≡ names → AreRooted 0 places → k < length places → IsRootedAt k parent → HasNameIn names parent
-named_parent places names k None is all within rooted = tt
-named_parent places names k (Some parent) is all within rooted =
-    subst (λ some. 0 < length (get_or some parent [])) is (named_within places parent all (omega (arith, within, rooted)))
+pub stepped_parent : (places : List Place) (ways : List (List Step)) (k : ℕ) (parent : Option ℕ) → ways_to places ≡ ways → AreRooted 0 places → k < length places → IsRootedAt k parent → HasStepIn ways parent
+stepped_parent places ways k None is all within rooted = tt
+stepped_parent places ways k (Some parent) is all within rooted =
+    subst (λ some. 0 < length (get_or some parent [])) is (stepped_within places parent all (omega (arith, within, rooted)))
 
 -- the text of names with one behind them
 pub joined_more : (front : List (List ℕ)) (name : List ℕ) → 0 < length front → joined (codes ".") front ++ codes "." ++ name ≡ joined (codes ".") (front ++ name ∷ [])

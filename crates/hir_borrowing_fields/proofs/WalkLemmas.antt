@@ -1,7 +1,7 @@
 -- A walk goes on from field to field.
-use Rattle.std.proofs.Common.{◌≡◌, ◌<◌, ◌≤◌, ◌+◌, ◌-◌, ℕ, zero, suc, option_map, List, [], ◌∷◌, ◌++◌, length, map, get_or, take, Some, refl, sym, ap, subst, ◌∙◌, append_assoc, length-append, arith}
-use Rattle.std.specs.List.{All}
-use Rattle.std.proofs.lemmas.List.{append-nil, flat_map_more, length-map, map-append, take_more}
+use Rattle.std.proofs.Common.{◌≡◌, ◌<◌, ◌≤◌, ◌+◌, ◌-◌, ℕ, zero, suc, option_map, List, [], ◌∷◌, ◌++◌, length, map, get_or, take, Some, refl, sym, ap, subst, ◌∙◌, append_assoc, length-append, length-take-le, arith}
+use Rattle.std.specs.List.{All, enumerate_from, flat_map}
+use Rattle.std.proofs.lemmas.List.{append-nil, length-map, map-append, take_more}
 use Rattle.std.proofs.lemmas.List.Elements.{All-cons, All-head, All-nil, All-tail}
 use Rattle.std.proofs.lemmas.Grind.{flat_map-append}
 use Rattle.std.proofs.lemmas.List.FromFn.{length-map-range_with_len}
@@ -16,62 +16,96 @@ use Rattle.hir_skeleton.specs.Skeletons.{Skeleton}
 use Rattle.hir_context.specs.Lookups.{InputStruct}
 use Rattle.hir_skeleton.specs.Lowered.{field_skeleton}
 use Rattle.hir_skeleton.specs.Inputs.{input_struct}
-use Rattle.hir_borrowing_fields.specs.NamedLeaves.{NamedLeaf}
+use Rattle.hir_skeleton.specs.NamedLeaves.{NamedLeaf}
 use Rattle.hir_borrowing_fields.specs.declared.walk.LeafWalk.{LeafWalk}
 use Rattle.hir_borrowing_fields.specs.inside.Findings.{Extends, Findings, FindsMore}
 use Rattle.hir_borrowing_fields.specs.inside.InputFits.{FieldsFit, SkeletonFits, TakesSoMany}
-use Rattle.hir_borrowing_fields.specs.inside.Places.{names_at}
-use Rattle.hir_borrowing_fields.specs.inside.Walks.{GoesOn, InputField, NamedSkeleton, behind, leaves_of_each, named_fields_in, walked_struct, walked_type}
-use Rattle.hir_borrowing_fields.proofs.FindingLemmas.{extends_on, finds_on, names_stay}
+use Rattle.hir_borrowing_fields.specs.inside.Places.{Step, steps_at}
+use Rattle.hir_borrowing_fields.specs.inside.Walks.{GoesOn, InputField, NamedSkeleton, behind, leaves_from, named_fields_in, step_into, walked_struct, walked_type}
+use Rattle.hir_borrowing_fields.proofs.FindingLemmas.{extends_on, finds_on, steps_stay}
 
-behind_both : (front : List (List ℕ)) (name : List ℕ) (leaves : List NamedLeaf) → map (behind (front ++ name ∷ [])) leaves ≡ map (behind front) (map (behind (name ∷ [])) leaves)
-behind_both front name [] = refl
-behind_both front name (leaf ∷ leaves) =
-    ap (λ names. record { names = names; carried = leaf.carried } ∷ map (behind (front ++ name ∷ [])) leaves) (append_assoc front (name ∷ []) leaf.names)
-    ∙ ap (λ rest. behind front (behind (name ∷ []) leaf) ∷ rest) (behind_both front name leaves)
+-- what comes behind a step comes behind all steps up to it
+map_behind : {A : Type 0} (f : Step → A) (front : List Step) (step : Step) (rest : List A) → map f (front ++ step ∷ []) ++ rest ≡ map f front ++ f step ∷ rest
+map_behind f front step rest = ap (λ steps. steps ++ rest) (map-append f front (step ∷ [])) ∙ append_assoc (map f front) (f step ∷ []) rest
 
-module _ {X : Type 0} (named : X → NamedSkeleton TypeId) (f : Skeleton TypeId → List NamedLeaf) (xs : List X) (i : ℕ) (x : X) (within : i < length xs) (is : x ≡ get_or xs i x) where
-  -- the leaves of one more, with theirs behind its own name
-  each_more : leaves_of_each f (map named (take (i + 1) xs)) ≡ leaves_of_each f (map named (take i xs)) ++ map (behind ((named x).name ∷ [])) (f (named x).skeleton)
+behind_both : (front : List Step) (step : Step) (leaves : List NamedLeaf) → map (behind (front ++ step ∷ [])) leaves ≡ map (behind front) (map (behind (step ∷ [])) leaves)
+behind_both front step [] = refl
+behind_both front step (leaf ∷ leaves) =
+    λ i. record {
+      path = map_behind (λ (s : Step). s.number) front step leaf.path i;
+      names = map_behind (λ (s : Step). s.name) front step leaf.names i;
+      carried = leaf.carried;
+    } ∷ behind_both front step leaves i
+
+-- numbers go on behind some
+numbered_on : {A : Type 0} (m : ℕ) (xs ys : List A) → enumerate_from m (xs ++ ys) ≡ enumerate_from m xs ++ enumerate_from (m + length xs) ys
+numbered_on m [] ys =
+    let same : m ≡ m + 0 = omega arith in
+    ap (λ n. enumerate_from n ys) same
+numbered_on m (x ∷ xs) ys =
+    let same : m + 1 + length xs ≡ m + suc (length xs) = omega arith in
+    ap (λ rest. (m, x) ∷ rest) (numbered_on (m + 1) xs ys)
+    ∙ ap (λ n. (m, x) ∷ enumerate_from (m + 1) xs ++ enumerate_from n ys) same
+
+-- the leaves of some and of others behind them
+from_both : (m : ℕ) (f : Skeleton TypeId → List NamedLeaf) (first second : List (NamedSkeleton TypeId)) → leaves_from m f (first ++ second) ≡ leaves_from m f first ++ leaves_from (m + length first) f second
+from_both m f first second =
+    let h : ℕ × NamedSkeleton TypeId → List NamedLeaf = λ one. map (behind (step_into one ∷ [])) (f one.1.skeleton) in
+    ap (flat_map h) (numbered_on m first second) ∙ flat_map-append h (enumerate_from m first) (enumerate_from (m + length first) second)
+
+module _ {X : Type 0} (named : X → NamedSkeleton TypeId) (f : Skeleton TypeId → List NamedLeaf) (xs : List X) (i : ℕ) (x : X) (within : i < length xs) (is : x ≡ get_or xs i x) (m number : ℕ) (counts : number ≡ m + i) where
+  -- the step into one more
+  abbrev next_step : Step
+  next_step = step_into (number, named x)
+
+  -- the leaves of one more, with theirs behind the step into it
+  each_more : leaves_from m f (map named (take (i + 1) xs)) ≡ leaves_from m f (map named (take i xs)) ++ map (behind (next_step ∷ [])) (f (named x).skeleton)
   each_more =
-      ap (λ some. leaves_of_each f (map named some)) (take_more xs i x within)
-      ∙ ap (λ one. leaves_of_each f (map named (take i xs ++ one ∷ []))) (sym is)
-      ∙ ap (leaves_of_each f) (map-append named (take i xs) (x ∷ []))
-      ∙ sym (flat_map_more (λ one. map (behind (one.name ∷ [])) (f one.skeleton)) [] (map named (take i xs)) (named x))
+      let long = length-map (take i xs) named in
+      let taken = length-take-le i xs (omega (arith, within)) in
+      let same : m + length (map named (take i xs)) ≡ number = omega (arith, long, taken, counts) in
+      ap (λ some. leaves_from m f (map named some)) (take_more xs i x within)
+      ∙ ap (λ one. leaves_from m f (map named (take i xs ++ one ∷ []))) (sym is)
+      ∙ ap (leaves_from m f) (map-append named (take i xs) (x ∷ []))
+      ∙ from_both m f (map named (take i xs)) (named x ∷ [])
+      ∙ ap (λ n. leaves_from m f (map named (take i xs)) ++ leaves_from n f (named x ∷ [])) same
+      ∙ ap (λ leaves. leaves_from m f (map named (take i xs)) ++ leaves) (append-nil (map (behind (next_step ∷ [])) (f (named x).skeleton)))
 
-  pub goes_on : (defs : Definitions) (old mid new : LeafWalk) (front : List (List ℕ))
-      → GoesOn defs old mid (map (behind front) (leaves_of_each f (map named (take i xs))))
-      → GoesOn defs mid new (map (behind (front ++ (named x).name ∷ [])) (f (named x).skeleton))
-      → GoesOn defs old new (map (behind front) (leaves_of_each f (map named (take (i + 1) xs))))
+  pub goes_on : (defs : Definitions) (old mid new : LeafWalk) (front : List Step)
+      → GoesOn defs old mid (map (behind front) (leaves_from m f (map named (take i xs))))
+      → GoesOn defs mid new (map (behind (front ++ next_step ∷ [])) (f (named x).skeleton))
+      → GoesOn defs old new (map (behind front) (leaves_from m f (map named (take (i + 1) xs))))
   goes_on defs old mid new front first second =
-      let before = leaves_of_each f (map named (take i xs)) in
+      let before = leaves_from m f (map named (take i xs)) in
       let here = f (named x).skeleton in
       record {
         finds =
             subst (FindsMore old.found new.found)
-            (ap (λ ys. map (behind front) before ++ ys) (behind_both front (named x).name here)
-            ∙ sym (map-append (behind front) before (map (behind ((named x).name ∷ [])) here))
+            (ap (λ ys. map (behind front) before ++ ys) (behind_both front next_step here)
+            ∙ sym (map-append (behind front) before (map (behind (next_step ∷ [])) here))
             ∙ ap (map (behind front)) (sym each_more))
             (finds_on old.found mid.found new.found _ _ first.finds second.finds);
         bare = second.bare;
       }
 
--- what is found behind the names of a place, where that was there before
-pub goes_behind : (defs : Definitions) (old mid new : LeafWalk) (at : ℕ) (name : List ℕ) (leaves : List NamedLeaf) → at < length old.found.places → Extends old.found.places mid.found.places
-    → GoesOn defs mid new (map (behind (names_at mid.found.places (Some at) ++ name ∷ [])) leaves) → GoesOn defs mid new (map (behind (names_at old.found.places (Some at) ++ name ∷ [])) leaves)
-goes_behind defs old mid new at name leaves there stay goes =
-    subst (λ front. GoesOn defs mid new (map (behind (front ++ name ∷ [])) leaves)) (names_stay old.found.places mid.found.places at stay there) goes
+-- what is found behind the steps to a place, where that was there before
+pub goes_behind : (defs : Definitions) (old mid new : LeafWalk) (at : ℕ) (step : Step) (leaves : List NamedLeaf) → at < length old.found.places → Extends old.found.places mid.found.places
+    → GoesOn defs mid new (map (behind (steps_at mid.found.places (Some at) ++ step ∷ [])) leaves) → GoesOn defs mid new (map (behind (steps_at old.found.places (Some at) ++ step ∷ [])) leaves)
+goes_behind defs old mid new at step leaves there stay goes =
+    subst (λ front. GoesOn defs mid new (map (behind (front ++ step ∷ [])) leaves)) (steps_stay old.found.places mid.found.places at stay there) goes
 
--- the leaves of one alone, behind its name and nothing else
-pub behind_one : (name : List ℕ) (leaves : List NamedLeaf) → map (behind (name ∷ [])) leaves ≡ map (behind []) (map (behind (name ∷ [])) leaves ++ [])
-behind_one name leaves = behind_both [] name leaves ∙ ap (map (behind [])) (sym (append-nil (map (behind (name ∷ [])) leaves)))
+-- the leaves of one alone, behind the step into it and nothing else
+pub behind_one : (step : Step) (leaves : List NamedLeaf) → map (behind (step ∷ [])) leaves ≡ map (behind []) (map (behind (step ∷ [])) leaves ++ [])
+behind_one step leaves = behind_both [] step leaves ∙ ap (map (behind [])) (sym (append-nil (map (behind (step ∷ [])) leaves)))
 
-pub goes_both : (defs : Definitions) (old mid new : LeafWalk) (f : Skeleton TypeId → List NamedLeaf) (first second : List (NamedSkeleton TypeId)) → GoesOn defs old mid (map (behind []) (leaves_of_each f first)) → GoesOn defs mid new (map (behind []) (leaves_of_each f second))
-    → GoesOn defs old new (map (behind []) (leaves_of_each f (first ++ second)))
+pub goes_both : (defs : Definitions) (old mid new : LeafWalk) (f : Skeleton TypeId → List NamedLeaf) (first second : List (NamedSkeleton TypeId)) → GoesOn defs old mid (map (behind []) (leaves_from 0 f first))
+    → GoesOn defs mid new (map (behind []) (leaves_from (length first) f second)) → GoesOn defs old new (map (behind []) (leaves_from 0 f (first ++ second)))
 goes_both defs old mid new f first second one two = record {
   finds =
       subst (FindsMore old.found new.found)
-      (sym (map-append (behind []) (leaves_of_each f first) (leaves_of_each f second)) ∙ ap (map (behind [])) (sym (flat_map-append (λ o. map (behind (o.name ∷ [])) (f o.skeleton)) first second)))
+      (let same : 0 + length first ≡ length first = omega arith in
+      sym (map-append (behind []) (leaves_from 0 f first) (leaves_from (length first) f second))
+      ∙ ap (map (behind [])) (sym (from_both 0 f first second ∙ ap (λ n. leaves_from 0 f first ++ leaves_from n f second) same)))
       (finds_on old.found mid.found new.found _ _ one.finds two.finds);
   bare = two.bare;
 }
@@ -81,40 +115,40 @@ pub behind_none : (leaves : List NamedLeaf) → map (behind []) leaves ≡ leave
 behind_none [] = refl
 behind_none (leaf ∷ leaves) = ap (λ rest. leaf ∷ rest) (behind_none leaves)
 
--- a place that was added has the names that were added
-added_names : (places : List (List (List ℕ))) (at : ℕ) (names : List (List ℕ)) (new : List (List (List ℕ))) → at ≡ length places → new ≡ places ++ names ∷ [] → get_or new at [] ≡ names
-added_names places at names new is grown =
-    ap (λ all. get_or all at []) grown ∙ ap (λ k. get_or (places ++ names ∷ []) k []) is ∙ get_or-append_seam places names [] []
+-- a place that was added has the steps that were added
+added_steps : (places : List (List Step)) (at : ℕ) (steps : List Step) (new : List (List Step)) → at ≡ length places → new ≡ places ++ steps ∷ [] → get_or new at [] ≡ steps
+added_steps places at steps new is grown =
+    ap (λ all. get_or all at []) grown ∙ ap (λ k. get_or (places ++ steps ∷ []) k []) is ∙ get_or-append_seam places steps [] []
 
-found_within : (old placed new : Findings) (at : ℕ) (names : List (List ℕ)) (leaves : List NamedLeaf) → at ≡ length old.places → placed.places ≡ old.places ++ names ∷ [] → placed.leaves ≡ old.leaves
-    → FindsMore placed new (map (behind (get_or placed.places at [])) leaves) → FindsMore old new (map (behind names) leaves)
-found_within old placed new at names leaves is grown same finds = record {
+found_within : (old placed new : Findings) (at : ℕ) (steps : List Step) (leaves : List NamedLeaf) → at ≡ length old.places → placed.places ≡ old.places ++ steps ∷ [] → placed.leaves ≡ old.leaves
+    → FindsMore placed new (map (behind (get_or placed.places at [])) leaves) → FindsMore old new (map (behind steps) leaves)
+found_within old placed new at steps leaves is grown same finds = record {
   leaves =
       finds.leaves ∙ ap (λ before. before ++ map (behind (get_or placed.places at [])) leaves) same
-      ∙ ap (λ front. old.leaves ++ map (behind front) leaves) (added_names old.places at names placed.places is grown);
-  places = extends_on old.places placed.places new.places (names ∷ [], grown) finds.places;
+      ∙ ap (λ front. old.leaves ++ map (behind front) leaves) (added_steps old.places at steps placed.places is grown);
+  places = extends_on old.places placed.places new.places (steps ∷ [], grown) finds.places;
 }
 
-one_level : (defs : Definitions) (levels : ℕ) (key : TypeId) (args : List (MaybeStatic ℕ)) → 0 < levels → leaves_of_each (walked_type defs (levels - 1) args) (named_fields_in defs key) ≡ walked_struct defs levels key args
+one_level : (defs : Definitions) (levels : ℕ) (key : TypeId) (args : List (MaybeStatic ℕ)) → 0 < levels → leaves_from 0 (walked_type defs (levels - 1) args) (named_fields_in defs key) ≡ walked_struct defs levels key args
 one_level defs zero key args some = absurd (omega (arith, some))
 one_level defs (suc levels) key args some =
     let below : suc levels - 1 ≡ levels = omega arith in
-    ap (λ n. leaves_of_each (walked_type defs n args) (named_fields_in defs key)) below
+    ap (λ n. leaves_from 0 (walked_type defs n args) (named_fields_in defs key)) below
 
--- a struct at a place that is added: its leaves are those of its fields, behind the names of the place
-pub found_struct : (defs : Definitions) (old placed new : Findings) (at : ℕ) (names : List (List ℕ)) (levels : ℕ) (key : TypeId) (args : List (MaybeStatic ℕ)) → 0 < levels → at ≡ length old.places → placed.places ≡ old.places ++ names ∷ []
-    → placed.leaves ≡ old.leaves → FindsMore placed new (map (behind (names_at placed.places (Some at))) (leaves_of_each (walked_type defs (levels - 1) args) (named_fields_in defs key)))
-    → FindsMore old new (map (behind names) (walked_struct defs levels key args))
-found_struct defs old placed new at names levels key args some is grown same finds =
-    subst (λ leaves. FindsMore old new (map (behind names) leaves)) (one_level defs levels key args some)
-    (found_within old placed new at names (leaves_of_each (walked_type defs (levels - 1) args) (named_fields_in defs key)) is grown same finds)
+-- a struct at a place that is added: its leaves are those of its fields, behind the steps to the place
+pub found_struct : (defs : Definitions) (old placed new : Findings) (at : ℕ) (steps : List Step) (levels : ℕ) (key : TypeId) (args : List (MaybeStatic ℕ)) → 0 < levels → at ≡ length old.places → placed.places ≡ old.places ++ steps ∷ []
+    → placed.leaves ≡ old.leaves → FindsMore placed new (map (behind (steps_at placed.places (Some at))) (leaves_from 0 (walked_type defs (levels - 1) args) (named_fields_in defs key)))
+    → FindsMore old new (map (behind steps) (walked_struct defs levels key args))
+found_struct defs old placed new at steps levels key args some is grown same finds =
+    subst (λ leaves. FindsMore old new (map (behind steps) leaves)) (one_level defs levels key args some)
+    (found_within old placed new at steps (leaves_from 0 (walked_type defs (levels - 1) args) (named_fields_in defs key)) is grown same finds)
 
 -- where no leaf was added there are none
-pub found_nothing : (old new : Findings) (names : List (List ℕ)) (leaves : List NamedLeaf) → FindsMore old new (map (behind names) leaves) → length new.leaves ≤ length old.leaves → length leaves ≡ 0
-found_nothing old new names leaves finds few =
+pub found_nothing : (old new : Findings) (steps : List Step) (leaves : List NamedLeaf) → FindsMore old new (map (behind steps) leaves) → length new.leaves ≤ length old.leaves → length leaves ≡ 0
+found_nothing old new steps leaves finds few =
     let all = ap length finds.leaves in
-    let long = length-append old.leaves (map (behind names) leaves) in
-    let same = length-map leaves (behind names) in
+    let long = length-append old.leaves (map (behind steps) leaves) in
+    let same = length-map leaves (behind steps) in
     omega (arith, all, long, same, few)
 
 -- the fields of a struct fit where its lifetimes are as many as it is given

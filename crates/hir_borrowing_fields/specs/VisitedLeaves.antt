@@ -2,7 +2,8 @@
 use Rattle.std.specs.Prelude.{◌≡◌, ℕ}
 use Rattle.std.specs.Fn.{Mut, Called}
 use Rattle.hir_life.specs.declared.maybe_static.MaybeStatic.{MaybeStatic}
-use Rattle.hir_borrowing_fields.specs.NamedLeaves.{NamedLeaf, leaf_at}
+use Rattle.hir_skeleton.specs.NamedLeaves.{NamedLeaf}
+use Rattle.hir_borrowing_fields.specs.NamedLeaves.{leaf_at}
 use Rattle.hir_borrowing_fields.specs.declared.fields.BorrowingField.{BorrowingField}
 
 -- the leaf that a field stands for: that of its number among those of its visitor

@@ -1,10 +1,11 @@
 //! Leaves, as they are visited.
 
-ghost use Rattle.std.specs.Prelude.{◌≡◌, ◌<◌, length};
+ghost use Rattle.std.specs.Prelude.{◌≡◌, ◌<◌, length, IfOk};
 
 use crate::visitor::BorrowingFieldVisitor;
-use bridge_decl::IdentBuf;
+use bridge_decl::{IdentBuf, Items, NoMemory};
 use hir_life::Lifetimes;
+use std::alloc::Global;
 use std::fmt;
 
 /// A leaf of a visitor: something in an input of a method that carries lifetimes.
@@ -26,6 +27,15 @@ impl<'m> BorrowingField<'m> {
         ensures { result.now ≡ (visited_leaf self.now).carried }
     {
         self.visitor.carried(self.leaf)
+    }
+
+    /// Where it stands: the number of its input, where the receiver is 0 if there is one, and then
+    /// the number of the field in each struct on the way. Steps and room are as many as these. The
+    /// only fault is want of memory.
+    pub fn path(&self, alloc: Global) -> Result<Items<usize>, NoMemory>
+        ensures { IfOk result (λ path. path ≡ (visited_leaf self.now).path) }
+    {
+        self.visitor.path(self.leaf, alloc)
     }
 
     /// Calls the function at each name that leads to the leaf, with its number: the name of the

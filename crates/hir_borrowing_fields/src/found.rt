@@ -6,11 +6,11 @@ ghost use Rattle.std.specs.List.{FoldsTo, enumerate_from};
 ghost use Rattle.bridge_decl.specs.Names.{joined};
 ghost use Rattle.hir_borrowing_fields.specs.Calls.{CalledAtName, TriesEach};
 ghost use Rattle.hir_borrowing_fields.specs.NamedLeaves.{leaf_at};
-ghost use Rattle.hir_borrowing_fields.specs.inside.Findings.{FindsMore};
-ghost use Rattle.hir_borrowing_fields.specs.inside.Places.{IsPlaceIn, names_at};
+ghost use Rattle.hir_borrowing_fields.specs.inside.Findings.{FindsMore, leaf_behind};
+ghost use Rattle.hir_borrowing_fields.specs.inside.Places.{IsPlaceIn, steps_to};
 
 use crate::places::{Place, Places};
-use bridge_decl::{IdentBuf, NoMemory};
+use bridge_decl::{IdentBuf, Items, NoMemory};
 use hir_life::Lifetimes;
 use std::alloc::Global;
 use std::fmt;
@@ -24,7 +24,7 @@ pub(crate) struct FoundLeaf {
 }
 
 /// The leaves that were found, in order, and the places on the way to them. Contracts see the
-/// names that lead to each.
+/// steps that lead to each place, and the path and the names of each leaf.
 #[derive(Drop)]
 pub(crate) struct FoundLeaves<'m> {
     places: Places<'m>,
@@ -69,21 +69,19 @@ impl<'m> FoundLeaves<'m> {
         requires { IsPlaceIn self.old.places place.now.parent }
         ensures place { IfOk result (λ at. at ≡ length self.old.places) }
         ensures places { OnOk result (self.new.places ≡ self.old.places
-            ++ (names_at self.old.places place.now.parent ++ place.now.name.now ∷ []) ∷ []) }
+            ++ steps_to self.old.places place.now ∷ []) }
         ensures leaves { OnOk result (self.new.leaves ≡ self.old.leaves) }
     {
         let at = self.places.len();
-        self.places.add(place.parent, place.name)?;
+        self.places.add(place)?;
         Ok(at)
     }
 
     /// Adds a leaf that carries these, and its place.
     pub(crate) fn add_leaf(&mut self, place: &Place<'m>, carried: Lifetimes) -> Result<(), NoMemory>
         requires { IsPlaceIn self.old.places place.now.parent }
-        ensures { OnOk result (FindsMore self.old self.new (record {
-          names = names_at self.old.places place.now.parent ++ place.now.name.now ∷ [];
-          carried = carried;
-        } ∷ [])) }
+        ensures { OnOk result (FindsMore self.old self.new
+            (leaf_behind (steps_to self.old.places place.now) carried ∷ [])) }
     {
         let place = self.add_place(place)?;
         self.leaves.push(FoundLeaf { place, carried })?;
@@ -123,6 +121,16 @@ impl<'m> FoundLeaves<'m> {
         ensures callable { F.IsAlwaysCallable visit.new }
     {
         self.places.try_backtrace(self.leaves[i].place, visit)
+    }
+
+    /// The numbers of the input and of the fields that lead to the leaf of this number.
+    pub(crate) fn path(&self, i: usize, alloc: Global) -> Result<Items<usize>, NoMemory>
+        requires { i < length self.now.leaves }
+        ensures { IfOk result (λ path. path ≡ (leaf_at self.now.leaves i).path) }
+    {
+        let mut path = Items::new(alloc);
+        self.places.add_path(&mut path, self.leaves[i].place)?;
+        Ok(path)
     }
 
     /// Writes the names that lead to the leaf of this number, with `.` between each two.

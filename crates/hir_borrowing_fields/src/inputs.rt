@@ -1,14 +1,14 @@
 //! The walk over the inputs of a method.
 
-ghost use Rattle.std.specs.Prelude.{◌≡◌, [], ◌∷◌, length, map, IfOk, OnOk};
+ghost use Rattle.std.specs.Prelude.{◌≡◌, ◌≤◌, ℕ, List, [], ◌∷◌, length, map, IfOk, OnOk};
 ghost use Rattle.std.specs.List.{All};
 ghost use Rattle.hir_life.specs.Substitution.{identity};
 ghost use Rattle.hir_mentions.specs.Mentions.{where_any};
 ghost use Rattle.hir_skeleton.specs.Lowered.{receiver_skeleton};
 ghost use Rattle.hir_skeleton.specs.Inputs.{method_inputs, param_skeleton};
+ghost use Rattle.hir_skeleton.specs.NamedLeaves.{borrowing_leaves};
 ghost use Rattle.hir_borrowing_fields.specs.inside.InputFits.{SkeletonFits};
-ghost use Rattle.hir_borrowing_fields.specs.NamedLeaves.{borrowing_leaves};
-ghost use Rattle.hir_borrowing_fields.specs.inside.Walks.{AreBare, GoesOn, behind, leaves_of_each, named_inputs, named_param, named_receiver, walked_type};
+ghost use Rattle.hir_borrowing_fields.specs.inside.Walks.{AreBare, GoesOn, behind, leaves_from, named_inputs, named_param, named_receiver, walked_type};
 
 use crate::found::FoundLeaves;
 use crate::parts::{TypePart, type_part};
@@ -38,11 +38,12 @@ fn add_self<'m>(
         (receiver_skeleton ty.now) }
     requires bare { AreBare tcx.now.definitions walk.old.bare }
     ensures { OnOk result (GoesOn tcx.now.definitions walk.old walk.new
-        (map (behind (self_name.now ∷ [])) (walked_type tcx.now.definitions 256 args.now
-        (receiver_skeleton ty.now)))) }
+        (map (behind (record { number = 0; name = self_name.now } ∷ []))
+        (walked_type tcx.now.definitions 256 args.now (receiver_skeleton ty.now)))) }
 {
     let place = Place {
         parent: None,
+        number: 0,
         name: self_name,
     };
     match ty {
@@ -72,7 +73,7 @@ fn add_receiver<'m>(
         (where_any (λ r. receiver_skeleton r.ty ∷ []) receiver.now) }
     requires bare { AreBare tcx.now.definitions walk.old.bare }
     ensures { OnOk result (GoesOn tcx.now.definitions walk.old walk.new (map (behind [])
-        (leaves_of_each (walked_type tcx.now.definitions 256 args.now)
+        (leaves_from 0 (walked_type tcx.now.definitions 256 args.now)
         (named_receiver self_name.now receiver.now)))) }
 {
     match receiver {
@@ -81,24 +82,39 @@ fn add_receiver<'m>(
     }
 }
 
-/// Adds the leaves of parameters.
+/// The number of the first parameter among the inputs: the receiver stands before it.
+fn first_param(receiver: &Option<ParamSelf>) -> usize
+    ensures behind { (self_name : List ℕ) → result
+        ≡ length (named_receiver self_name receiver.now) }
+    ensures few { result ≤ 1 }
+{
+    match receiver {
+        Some(_) => 1,
+        None => 0,
+    }
+}
+
+/// Adds the leaves of parameters, the first of which has this number.
 fn add_params<'m>(
     alloc: Global,
     tcx: &'m TypeContext,
     walk: &mut LeafWalk<'m>,
     params: &'m [Param],
     args: &Lifetimes,
+    first: usize,
 ) -> Result<(), NoMemory>
+    requires few { first ≤ 1 }
     requires fit { All (λ p. SkeletonFits tcx.now.definitions (length args.now)
         (param_skeleton p.ty)) params.now }
     requires bare { AreBare tcx.now.definitions walk.old.bare }
     ensures { OnOk result (GoesOn tcx.now.definitions walk.old walk.new (map (behind [])
-        (leaves_of_each (walked_type tcx.now.definitions 256 args.now)
+        (leaves_from first (walked_type tcx.now.definitions 256 args.now)
         (map named_param params.now)))) }
 {
-    for param in params {
+    for (number, param) in params.iter().enumerate() {
         let place = Place {
             parent: None,
+            number: first + number,
             name: &param.name,
         };
         add_part(
@@ -127,11 +143,12 @@ fn add_inputs<'m>(
         (method_inputs method.now) }
     requires bare { AreBare tcx.now.definitions walk.old.bare }
     ensures { OnOk result (GoesOn tcx.now.definitions walk.old walk.new (map (behind [])
-        (leaves_of_each (walked_type tcx.now.definitions 256 args.now)
+        (leaves_from 0 (walked_type tcx.now.definitions 256 args.now)
         (named_inputs self_name.now method.now)))) }
 {
     add_receiver(alloc, tcx, walk, self_name, &method.param_self, args)?;
-    add_params(alloc, tcx, walk, method.params.as_slice(), args)?;
+    let first = first_param(&method.param_self);
+    add_params(alloc, tcx, walk, method.params.as_slice(), args, first)?;
     Ok(())
 }
 

@@ -29,14 +29,15 @@
 //! | `len` | 1 |
 //! | `get(0)` | the leaf, as a [`BorrowingField`]; `get(1)` is none |
 //! | `lifetimes` of the leaf | `'a`, `'b` |
+//! | `path` of the leaf | 0, 0: `mark` is the first input, and `page` the first field of `Mark` |
 //! | `backtrace` of the leaf | calls its function at 0 and `mark`, then at 1 and `page` |
 //! | `Display` of the leaf | `mark.page` |
 //! | `visit_borrowing_fields` | calls its function at `'a` and the leaf, then at `'b` and it |
 //!
 //! # What it costs
 //!
-//! Leaves share the names of what they stand in, so a leaf takes the room of its own name and of
-//! what it carries. Structs nest 256 deep at most, and no walk goes deeper. Where structs hold
+//! Leaves share the names and numbers of what they stand in, so a leaf takes the room of its own
+//! name and number and of what it carries. Structs nest 256 deep at most, and no walk goes deeper. Where structs hold
 //! many others and no leaf, each is looked into once for each number of levels, and not each time
 //! that it is held.
 //!

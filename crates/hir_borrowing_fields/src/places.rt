@@ -1,29 +1,31 @@
-//! Places, each with the names that lead to it.
+//! Places, each with the steps that lead to it.
 
-ghost use Rattle.std.specs.Prelude.{◌≡◌, ℕ, ◌<◌, List, [], ◌∷◌, ◌++◌, length, slice_index_or, codes, Some, OnOk, OnErr};
+ghost use Rattle.std.specs.Prelude.{◌≡◌, ◌<◌, [], ◌∷◌, ◌++◌, length, slice_index_or, codes, Some, IfOk, OnOk, OnErr};
 ghost use Rattle.std.specs.Fmt.{DisplaysOnOk};
 ghost use Rattle.std.specs.List.{FoldsTo, enumerate_from};
 ghost use Rattle.bridge_decl.specs.Names.{joined};
 ghost use Rattle.hir_borrowing_fields.specs.Calls.{CalledAtName, TriesEach};
-ghost use Rattle.hir_borrowing_fields.specs.inside.Places.{IsAbove, HasNameIn, IsPlaceIn, IsRootedAt, names_at};
+ghost use Rattle.hir_borrowing_fields.specs.inside.Places.{IsAbove, HasStepIn, IsPlaceIn, IsRootedAt, Step, own_step, step_names, step_numbers, steps_at, steps_to};
 
-use bridge_decl::{IdentBuf, NoMemory};
+use bridge_decl::{IdentBuf, Items, NoMemory};
 use std::alloc::Global;
 use std::fmt;
 use std::marker::Model;
 
-/// A place: what it stands in, and its own name there.
+/// A place: what it stands in, and its own number and name there.
 #[derive(Clone, Copy)]
 pub(crate) struct Place<'m> {
     /// The place that it stands in, unless it stands at the root.
     pub(crate) parent: Option<usize>,
+    /// Its own number.
+    pub(crate) number: usize,
     /// Its own name.
     pub(crate) name: &'m IdentBuf,
 }
 
-/// Places, in the order in which they were added. Contracts see the names that lead to each.
+/// Places, in the order in which they were added. Contracts see the steps that lead to each.
 ///
-/// A place takes the room of its own name alone: it shares those before it with the place that it
+/// A place takes the room of its own step alone: it shares those before it with the place that it
 /// stands in.
 #[derive(Drop)]
 pub(crate) struct Places<'m> {
@@ -31,13 +33,14 @@ pub(crate) struct Places<'m> {
 }
 
 impl<'m> Model for Places<'m> {
-    ghost use Rattle.std.specs.Prelude.{List, ℕ};
+    ghost use Rattle.std.specs.Prelude.{List};
+    ghost use Rattle.hir_borrowing_fields.specs.inside.Places.{Step};
 
-    ghost Value = { List (List (List ℕ)) };
+    ghost Value = { List (List Step) };
 
-    ghost use Rattle.hir_borrowing_fields.specs.inside.Places.{names_of_places, AreRooted};
+    ghost use Rattle.hir_borrowing_fields.specs.inside.Places.{ways_to, AreRooted};
 
-    ghost view = { λ it. names_of_places it.places.items };
+    ghost view = { λ it. ways_to it.places.items };
 
     ghost invariant = { λ it. AreRooted 0 it.places.items };
 }
@@ -59,15 +62,13 @@ impl<'m> Places<'m> {
         self.places.len()
     }
 
-    /// Adds a place of this name in another, or at the root. Without memory for it there are the
-    /// places as before.
-    pub(crate) fn add(&mut self, parent: Option<usize>, name: &'m IdentBuf) -> Result<(), NoMemory>
-        requires { IsPlaceIn self.old parent }
-        ensures ok { OnOk result
-            (self.new ≡ self.old ++ (names_at self.old parent ++ name.now ∷ []) ∷ []) }
+    /// Adds a place. Without memory for it there are the places as before.
+    pub(crate) fn add(&mut self, place: &Place<'m>) -> Result<(), NoMemory>
+        requires { IsPlaceIn self.old place.now.parent }
+        ensures ok { OnOk result (self.new ≡ self.old ++ steps_to self.old place.now ∷ []) }
         ensures err { OnErr result (self.new ≡ self.old) }
     {
-        self.places.push(Place { parent, name })?;
+        self.places.push(*place)?;
         Ok(())
     }
 
@@ -76,20 +77,19 @@ impl<'m> Places<'m> {
         requires { place < length self.now }
         ensures rooted { IsRootedAt place result.parent }
         ensures within { IsPlaceIn self.now result.parent }
-        ensures named { HasNameIn self.now result.parent }
-        ensures names { slice_index_or self.now place []
-            ≡ names_at self.now result.parent ++ result.name.now ∷ [] }
+        ensures stepped { HasStepIn self.now result.parent }
+        ensures steps { slice_index_or self.now place [] ≡ steps_to self.now result }
     {
         self.places[place]
     }
 
-    /// The place that another stands in, to which more than one name leads.
+    /// The place that another stands in, to which more than one step leads.
     fn parent(&self, place: usize) -> usize
         requires within { place < length self.now }
         requires inside { 1 < length (slice_index_or self.now place []) }
         ensures within { result < place }
-        ensures names { (name : List ℕ) × (slice_index_or self.now place []
-            ≡ slice_index_or self.now result [] ++ name ∷ []) }
+        ensures steps { (step : Step) × (slice_index_or self.now place []
+            ≡ slice_index_or self.now result [] ++ step ∷ []) }
     {
         match self.place(place).parent {
             Some(parent) => parent,
@@ -97,7 +97,7 @@ impl<'m> Places<'m> {
         }
     }
 
-    /// How many names lead to a place.
+    /// How many steps lead to a place.
     fn depth(&self, place: usize) -> usize
         requires { place < length self.now }
         ensures { result ≡ length (slice_index_or self.now place []) }
@@ -113,12 +113,12 @@ impl<'m> Places<'m> {
         depth
     }
 
-    /// The place from which so many names lead to another.
+    /// The place from which so many steps lead to another.
     fn above(&self, place: usize, up: usize) -> usize
         requires within { place < length self.now }
         requires inside { up < length (slice_index_or self.now place []) }
         ensures within { result < length self.now }
-        ensures names { IsAbove (slice_index_or self.now place []) up
+        ensures steps { IsAbove (slice_index_or self.now place []) up
             (slice_index_or self.now result []) }
     {
         let mut at = place;
@@ -134,7 +134,7 @@ impl<'m> Places<'m> {
         requires within { place < length self.now }
         requires callable { F.IsAlwaysCallable visit.old }
         ensures called { FoldsTo (λ p x q. CalledAtName F.FnMut p x tt q) visit.old
-            (enumerate_from 0 (slice_index_or self.now place [])) visit.new }
+            (enumerate_from 0 (step_names (slice_index_or self.now place []))) visit.new }
         ensures callable { F.IsAlwaysCallable visit.new }
     {
         let depth = self.depth(place);
@@ -153,7 +153,7 @@ impl<'m> Places<'m> {
         requires within { place < length self.now }
         requires callable { F.IsAlwaysCallable visit.old }
         ensures called { TriesEach (CalledAtName F.FnMut) visit.old
-            (enumerate_from 0 (slice_index_or self.now place [])) result visit.new }
+            (enumerate_from 0 (step_names (slice_index_or self.now place []))) result visit.new }
         ensures callable { F.IsAlwaysCallable visit.new }
     {
         let depth = self.depth(place);
@@ -167,6 +167,26 @@ impl<'m> Places<'m> {
         Ok(())
     }
 
+    /// Adds the numbers of the steps that lead to a place, from the root on.
+    pub(crate) fn add_path(&self, path: &mut Items<usize>, place: usize) -> Result<(), NoMemory>
+        requires { place < length self.now }
+        ensures { OnOk result (path.new
+            ≡ path.old ++ step_numbers (slice_index_or self.now place [])) }
+    {
+        let here = self.place(place);
+        match here.parent {
+            Some(parent) => {
+                self.add_path(path, parent)?;
+                path.push(here.number)?;
+                Ok(())
+            }
+            None => {
+                path.push(here.number)?;
+                Ok(())
+            }
+        }
+    }
+
     /// Writes the names that lead to a place, from the root on, with `.` between each two.
     pub(crate) fn put_names<W: fmt::Write>(
         &self,
@@ -175,7 +195,7 @@ impl<'m> Places<'m> {
     ) -> fmt::Result
         requires { place < length self.now }
         ensures { DisplaysOnOk W.write_str_gives f.old result
-            (Some (joined (codes ".") (slice_index_or self.now place []))) f.new }
+            (Some (joined (codes ".") (step_names (slice_index_or self.now place [])))) f.new }
     {
         let here = self.place(place);
         match here.parent {

@@ -6,13 +6,14 @@ ghost use Rattle.std.specs.List.{FoldsTo, enumerate_from};
 ghost use Rattle.bridge_decl.specs.Names.{joined};
 ghost use Rattle.hir_context.specs.Fitness.{MethodFits};
 ghost use Rattle.hir_borrowing_fields.specs.Calls.{CalledAtName, TriesEach};
-ghost use Rattle.hir_borrowing_fields.specs.NamedLeaves.{borrowing_leaves, leaf_at, lifetimes_with_leaves};
+ghost use Rattle.hir_skeleton.specs.NamedLeaves.{borrowing_leaves};
+ghost use Rattle.hir_borrowing_fields.specs.NamedLeaves.{leaf_at, lifetimes_with_leaves};
 ghost use Rattle.hir_borrowing_fields.specs.VisitedLeaves.{CalledAtLeaf, visited_leaf};
 
 use crate::fields::BorrowingField;
 use crate::found::FoundLeaves;
 use crate::inputs::find_leaves;
-use bridge_decl::{IdentBuf, NoMemory};
+use bridge_decl::{IdentBuf, Items, NoMemory};
 use hir_context::TypeContext;
 use hir_definitions::Method;
 use hir_life::{Lifetime, Lifetimes, MaybeStatic};
@@ -21,11 +22,12 @@ use std::fmt;
 use std::marker::Model;
 
 /// The leaves of the inputs of a method: all that carries lifetimes in them, at any depth.
-/// Contracts see the list of the leaves, each with the names that lead to it and what it carries.
+/// Contracts see the list of the leaves, each with its path, the names along it and what it
+/// carries.
 ///
 /// The leaves stand in order: those of the receiver first, then those of each parameter, and
 /// inside a struct those of each field. A leaf takes the room of what it carries and of its own
-/// name: leaves share the names of what they stand in.
+/// name and number: leaves share those of what they stand in.
 #[derive(Drop)]
 pub struct BorrowingFieldVisitor<'m> {
     found: FoundLeaves<'m>,
@@ -33,7 +35,7 @@ pub struct BorrowingFieldVisitor<'m> {
 
 impl<'m> Model for BorrowingFieldVisitor<'m> {
     ghost use Rattle.std.specs.Prelude.{List};
-    ghost use Rattle.hir_borrowing_fields.specs.NamedLeaves.{NamedLeaf};
+    ghost use Rattle.hir_skeleton.specs.NamedLeaves.{NamedLeaf};
 
     ghost Value = { List NamedLeaf };
 
@@ -122,6 +124,14 @@ impl<'m> BorrowingFieldVisitor<'m> {
         ensures callable { F.IsAlwaysCallable visit.new }
     {
         self.found.try_backtrace(i, visit)
+    }
+
+    /// The numbers of the input and of the fields that lead to the leaf of this number.
+    pub(crate) fn path(&self, i: usize, alloc: Global) -> Result<Items<usize>, NoMemory>
+        requires { i < length self.now }
+        ensures { IfOk result (λ path. path ≡ (leaf_at self.now i).path) }
+    {
+        self.found.path(i, alloc)
     }
 
     /// Writes the names that lead to the leaf of this number, with `.` between each two.

@@ -9,9 +9,9 @@ ghost use Rattle.hir_skeleton.specs.Skeletons.{Struct};
 ghost use Rattle.hir_skeleton.specs.Lowered.{carrier_of, field_skeleton};
 ghost use Rattle.hir_borrowing_fields.specs.inside.InputFits.{SkeletonFits, TakesSoMany};
 ghost use Rattle.hir_borrowing_fields.specs.inside.Findings.{FindsMore};
-ghost use Rattle.hir_borrowing_fields.specs.inside.Places.{IsPlaceIn, names_at};
+ghost use Rattle.hir_borrowing_fields.specs.inside.Places.{IsPlaceIn, steps_at, steps_to};
 ghost use Rattle.hir_borrowing_fields.specs.inside.TypeParts.{carrier_lifetimes, part_skeleton};
-ghost use Rattle.hir_borrowing_fields.specs.inside.Walks.{AreBare, GoesOn, IsBare, behind, leaves_of_each, leaves_of_type, named_field, named_fields_in, walked_struct, walked_type};
+ghost use Rattle.hir_borrowing_fields.specs.inside.Walks.{AreBare, GoesOn, IsBare, behind, leaves_from, leaves_of_type, named_field, named_fields_in, walked_struct, walked_type};
 
 use crate::carried::{carried_under, carrier_lifetimes};
 use crate::found::FoundLeaves;
@@ -66,7 +66,7 @@ fn add_leaf<'m>(
     requires within { IsPlaceIn found.old.places place.now.parent }
     requires below { AreBelow (length args.now) lifetimes.now }
     ensures { OnOk result (FindsMore found.old found.new (map (behind
-        (names_at found.old.places place.now.parent ++ place.now.name.now ∷ []))
+        (steps_to found.old.places place.now))
         (leaves_of_type {K = TypeId} (λ _ _. []) args.now (carrier_of lifetimes.now)))) }
 {
     if lifetimes.len() == 0 {
@@ -90,7 +90,7 @@ fn add_carrier<'m>(
     requires within { IsPlaceIn found.old.places place.now.parent }
     requires below { AreBelow (length args.now) (carrier_lifetimes own element given.now) }
     ensures { OnOk result (FindsMore found.old found.new (map (behind
-        (names_at found.old.places place.now.parent ++ place.now.name.now ∷ []))
+        (steps_to found.old.places place.now))
         (leaves_of_type {K = TypeId} (λ _ _. []) args.now
         (carrier_of (carrier_lifetimes own element given.now))))) }
 {
@@ -113,7 +113,7 @@ pub(crate) fn add_part<'m>(
     requires fits { SkeletonFits tcx.now.definitions (length args.now) (part_skeleton part.now) }
     requires bare { AreBare tcx.now.definitions walk.old.bare }
     ensures { OnOk result (GoesOn tcx.now.definitions walk.old walk.new (map (behind
-        (names_at walk.old.found.places place.now.parent ++ place.now.name.now ∷ []))
+        (steps_to walk.old.found.places place.now))
         (walked_type tcx.now.definitions levels args.now (part_skeleton part.now)))) }
 {
     match part {
@@ -147,7 +147,7 @@ fn add_struct<'m>(
         (Struct (type.Struct path.now.tcx_id) path.now.lifetimes) }
     requires bare { AreBare tcx.now.definitions walk.old.bare }
     ensures { OnOk result (GoesOn tcx.now.definitions walk.old walk.new (map (behind
-        (names_at walk.old.found.places place.now.parent ++ place.now.name.now ∷ []))
+        (steps_to walk.old.found.places place.now))
         (walked_struct tcx.now.definitions levels (type.Struct path.now.tcx_id)
         (subst_each path.now.lifetimes args.now)))) }
 {
@@ -174,7 +174,7 @@ fn add_struct_given<'m>(
         (length args.now) }
     requires bare { AreBare tcx.now.definitions walk.old.bare }
     ensures { OnOk result (GoesOn tcx.now.definitions walk.old walk.new (map (behind
-        (names_at walk.old.found.places place.now.parent ++ place.now.name.now ∷ []))
+        (steps_to walk.old.found.places place.now))
         (walked_struct tcx.now.definitions levels (type.Struct path.now.tcx_id) args.now))) }
 {
     if levels == 0 {
@@ -206,8 +206,8 @@ fn add_fields_of<'m>(
         (length args.now) }
     requires bare { AreBare tcx.now.definitions walk.old.bare }
     ensures { OnOk result (GoesOn tcx.now.definitions walk.old walk.new (map (behind
-        (names_at walk.old.found.places (Some at)))
-        (leaves_of_each (walked_type tcx.now.definitions levels args.now)
+        (steps_at walk.old.found.places (Some at)))
+        (leaves_from 0 (walked_type tcx.now.definitions levels args.now)
         (named_fields_in tcx.now.definitions (type.Struct path.now.tcx_id))))) }
 {
     let def = tcx.resolve_struct(path.tcx_id);
@@ -233,13 +233,14 @@ fn add_fields<'m>(
         (field_skeleton f.ty)) fields.now }
     requires bare { AreBare tcx.now.definitions walk.old.bare }
     ensures { OnOk result (GoesOn tcx.now.definitions walk.old walk.new (map (behind
-        (names_at walk.old.found.places (Some at)))
-        (leaves_of_each (walked_type tcx.now.definitions levels args.now)
+        (steps_at walk.old.found.places (Some at)))
+        (leaves_from 0 (walked_type tcx.now.definitions levels args.now)
         (map named_field fields.now)))) }
 {
-    for field in fields {
+    for (number, field) in fields.iter().enumerate() {
         let place = Place {
             parent: Some(at),
+            number,
             name: &field.name,
         };
         add_part(

@@ -1,32 +1,52 @@
 -- Places, each of which tells the one that it stands in. The example throughout has the places `mark` and `page`, which
--- stands in it.
-use Rattle.std.specs.Prelude.{⊤, ◌≡◌, ◌<◌, ℕ, suc, List, [], ◌∷◌, ◌++◌, Option, Some, None, length, slice_index_or}
+-- stands in it; each is the first of its kind, and has the number 0.
+use Rattle.std.specs.Prelude.{⊤, ◌≡◌, ◌<◌, ℕ, suc, List, [], ◌∷◌, ◌++◌, Option, Some, None, length, map, slice_index_or}
 use Rattle.hir_borrowing_fields.specs.declared.places.Place.{Place}
 
--- the place is there, where these names lead to each; the root always is
-abbrev pub IsPlaceIn : List (List (List ℕ)) → Option ℕ → Type 0
-IsPlaceIn names None = ⊤
-IsPlaceIn names (Some place) = place < length names
+-- a step on the way to a place: into the input or the field of this number and name
+pub record Step : Type 0 where
+  pub number : ℕ
+  pub name : List ℕ
 
--- the names that lead to a place, and none to the root
-abbrev pub names_at : List (List (List ℕ)) → Option ℕ → List (List ℕ)
-names_at names None = []
-names_at names (Some place) = slice_index_or names place []
+-- the numbers along a way: 0, 0
+abbrev pub step_numbers : List Step → List ℕ
+step_numbers steps = map (λ step. step.number) steps
 
--- some name leads to the place, unless it is the root
-abbrev pub HasNameIn : List (List (List ℕ)) → Option ℕ → Type 0
-HasNameIn names None = ⊤
-HasNameIn names (Some place) = 0 < length (slice_index_or names place [])
+-- the names along it: `mark`, `page`
+abbrev pub step_names : List Step → List (List ℕ)
+step_names steps = map (λ step. step.name) steps
 
--- the names that lead to each place, these and then those of further places
-abbrev pub names_with_places : List (List (List ℕ)) → List Place → List (List (List ℕ))
-names_with_places names [] = names
-names_with_places names (place ∷ places) =
-    names_with_places (names ++ (names_at names place.parent ++ place.name.now ∷ []) ∷ []) places
+-- the place is there, where these steps lead to each; the root always is
+abbrev pub IsPlaceIn : List (List Step) → Option ℕ → Type 0
+IsPlaceIn ways None = ⊤
+IsPlaceIn ways (Some place) = place < length ways
 
--- the names that lead to each place: `mark`; and `mark`, `page`
-abbrev pub names_of_places : List Place → List (List (List ℕ))
-names_of_places places = names_with_places [] places
+-- the steps that lead to a place, and none to the root
+abbrev pub steps_at : List (List Step) → Option ℕ → List Step
+steps_at ways None = []
+steps_at ways (Some place) = slice_index_or ways place []
+
+-- some step leads to the place, unless it is the root
+abbrev pub HasStepIn : List (List Step) → Option ℕ → Type 0
+HasStepIn ways None = ⊤
+HasStepIn ways (Some place) = 0 < length (slice_index_or ways place [])
+
+-- the step into a place from what it stands in
+abbrev pub own_step : Place → Step
+own_step place = record { number = place.number; name = place.name.now }
+
+-- the steps that lead to a place that is added: those to what it stands in, and its own
+abbrev pub steps_to : List (List Step) → Place → List Step
+steps_to ways place = steps_at ways place.parent ++ own_step place ∷ []
+
+-- the steps that lead to each place, these and then those of further places
+abbrev pub ways_with : List (List Step) → List Place → List (List Step)
+ways_with ways [] = ways
+ways_with ways (place ∷ places) = ways_with (ways ++ steps_to ways place ∷ []) places
+
+-- the steps that lead to each place: into `mark`; and into `mark`, `page`
+abbrev pub ways_to : List Place → List (List Step)
+ways_to places = ways_with [] places
 
 -- it is the root, or it stands before the place of this number
 abbrev pub IsRootedAt : ℕ → Option ℕ → Type 0
@@ -38,6 +58,6 @@ abbrev pub AreRooted : ℕ → List Place → Type 0
 AreRooted k [] = ⊤
 AreRooted k (place ∷ places) = IsRootedAt k place.parent × AreRooted (suc k) places
 
--- these are the names without the last so many
-abbrev pub IsAbove : List (List ℕ) → ℕ → List (List ℕ) → Type 0
-IsAbove names up front = (rest : List (List ℕ)) × (names ≡ front ++ rest) × (length rest ≡ up)
+-- these are the steps without the last so many
+abbrev pub IsAbove : {A : Type 0} → List A → ℕ → List A → Type 0
+IsAbove {A} steps up front = (rest : List A) × (steps ≡ front ++ rest) × (length rest ≡ up)

@@ -1,6 +1,6 @@
--- The leaves of types with their names, as a walk finds them: it knows nothing of the numbers of fields.
+-- The leaves of types with their paths and names, as a walk finds them: step by step.
 use Rattle.std.specs.Prelude.{◌≡◌, ℕ, zero, suc, List, [], ◌∷◌, ◌++◌, Option, cond, map}
-use Rattle.std.specs.List.{All, flat_map}
+use Rattle.std.specs.List.{All, enumerate_from, flat_map}
 use Rattle.std.specs.BTreeSet.{BTreeSet}
 use Rattle.hir_life.specs.Substitution.{subst_each}
 use Rattle.hir_life.specs.declared.maybe_static.MaybeStatic.{MaybeStatic}
@@ -22,35 +22,41 @@ use Rattle.hir_skeleton.specs.Leaves.{each_once}
 use Rattle.hir_context.specs.Lookups.{InputStruct}
 use Rattle.hir_skeleton.specs.Lowered.{field_skeleton, receiver_skeleton}
 use Rattle.hir_skeleton.specs.Inputs.{input_struct, param_skeleton}
-use Rattle.hir_borrowing_fields.specs.NamedLeaves.{NamedLeaf}
+use Rattle.hir_skeleton.specs.NamedLeaves.{NamedLeaf}
 use Rattle.hir_borrowing_fields.specs.declared.walk.LeafWalk.{LeafWalk}
 use Rattle.hir_borrowing_fields.specs.inside.Findings.{FindsMore}
+use Rattle.hir_borrowing_fields.specs.inside.Places.{Step, step_names, step_numbers}
 
 -- a field or an input: its name and its skeleton
 pub record NamedSkeleton (K : Type 0) : Type 0 where
   pub name : List ℕ
   pub skeleton : Skeleton K
 
--- the same leaf behind these names: `page` behind `mark`
-abbrev pub behind : List (List ℕ) → NamedLeaf → NamedLeaf
-behind front leaf = record leaf { names = front ++ leaf.names }
+-- the same leaf behind these steps: `page` behind `mark`
+abbrev pub behind : List Step → NamedLeaf → NamedLeaf
+behind front leaf = record leaf { path = step_numbers front ++ leaf.path; names = step_names front ++ leaf.names }
 
--- the leaves of several, each behind its own name
-abbrev pub leaves_of_each : {K : Type 0} → (Skeleton K → List NamedLeaf) → List (NamedSkeleton K) → List NamedLeaf
-leaves_of_each of_one all = flat_map (λ one. map (behind (one.name ∷ [])) (of_one one.skeleton)) all
+-- the step into one of several, with its number among them
+abbrev pub step_into : {K : Type 0} → ℕ × NamedSkeleton K → Step
+step_into one = record { number = one.0; name = one.1.name }
+
+-- the leaves of several whose numbers begin so, each behind the step into it
+abbrev pub leaves_from : {K : Type 0} → ℕ → (Skeleton K → List NamedLeaf) → List (NamedSkeleton K) → List NamedLeaf
+leaves_from first of_one all =
+    flat_map (λ one. map (behind (step_into one ∷ [])) (of_one one.1.skeleton)) (enumerate_from first all)
 
 -- the leaves of a type in which these arguments stand for its lifetimes, from those of structs with their arguments
 abbrev pub leaves_of_type : {K : Type 0} → (K → List (MaybeStatic ℕ) → List NamedLeaf) → List (MaybeStatic ℕ) → Skeleton K → List NamedLeaf
 leaves_of_type of_struct args Nothing = []
 leaves_of_type of_struct args (Carrier lifetimes) =
-    record { names = []; carried = each_once (subst_each lifetimes args) } ∷ []
+    record { path = []; names = []; carried = each_once (subst_each lifetimes args) } ∷ []
 leaves_of_type of_struct args (Struct key given) = of_struct key (subst_each given args)
 
 -- the leaves of a struct with these arguments, so many levels deep, where it is known which fields a struct has
 abbrev pub leaves_of_struct : {K : Type 0} → (K → List (NamedSkeleton K)) → ℕ → K → List (MaybeStatic ℕ) → List NamedLeaf
 leaves_of_struct named_in zero key args = []
 leaves_of_struct named_in (suc levels) key args =
-    leaves_of_each (leaves_of_type (leaves_of_struct named_in levels) args) (named_in key)
+    leaves_from 0 (leaves_of_type (leaves_of_struct named_in levels) args) (named_in key)
 
 -- a field
 abbrev pub InputField : Type 0

@@ -1,6 +1,6 @@
 use Rattle.std.proofs.Common.{◌+◌, ◌*◌, map, take, Some}
-use Rattle.hir_borrowing_fields.specs.inside.Places.{names_at}
-use Rattle.hir_borrowing_fields.specs.inside.Walks.{GoesOn, behind, leaves_of_each, named_field, walked_type}
+use Rattle.hir_borrowing_fields.specs.inside.Places.{steps_at}
+use Rattle.hir_borrowing_fields.specs.inside.Walks.{GoesOn, behind, leaves_from, named_field, walked_type}
 use Rattle.hir_borrowing_fields.proofs.walk.+leaves.Given as goal
 
 abbrev pub decreases-add_part : goal.decreases-add_part
@@ -18,6 +18,6 @@ decreases-add_fields_of l = 5 * l.levels + 5
 abbrev pub decreases-add_fields : goal.decreases-add_fields
 decreases-add_fields l = 5 * l.levels + 4
 
-abbrev pub invariant-add_fields-loop-field : goal.invariant-add_fields-loop-field
-invariant-add_fields-loop-field l =
-    GoesOn l.tcx.definitions l.initial.walk l.walk (map (behind (names_at l.initial.walk.found.places (Some l.at))) (leaves_of_each (walked_type l.tcx.definitions l.levels l.args) (map named_field (take l.field-index l.fields))))
+abbrev pub invariant-add_fields-loop-number : goal.invariant-add_fields-loop-number
+invariant-add_fields-loop-number l =
+    GoesOn l.tcx.definitions l.initial.walk l.walk (map (behind (steps_at l.initial.walk.found.places (Some l.at))) (leaves_from 0 (walked_type l.tcx.definitions l.levels l.args) (map named_field (take l.number l.fields))))

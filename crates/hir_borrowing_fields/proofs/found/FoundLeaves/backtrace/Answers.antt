@@ -1,7 +1,8 @@
 use Rattle.std.proofs.Common.{[], subst, sym}
 use Rattle.std.specs.List.{FoldsTo, enumerate_from}
 use Rattle.hir_borrowing_fields.specs.Calls.{CalledAtName}
-use Rattle.hir_borrowing_fields.specs.NamedLeaves.{NamedLeaf, leaf_at}
+use Rattle.hir_skeleton.specs.NamedLeaves.{NamedLeaf}
+use Rattle.hir_borrowing_fields.specs.NamedLeaves.{leaf_at}
 use Rattle.hir_borrowing_fields.proofs.FindingLemmas.{leaf_read, leaf_within}
 use Rattle.hir_borrowing_fields.proofs.found.FoundLeaves.backtrace.Goals as goal
 
@@ -10,6 +11,6 @@ returns-clause-called g c =
     subst (λ found. FoldsTo (λ p x q. CalledAtName g.F.FnMut p x tt q) c.args.visit.now (enumerate_from 0 (leaf_at found.leaves c.args.i).names) c.backtrace.new.visit)
     c.self.view_is
     (subst (λ (leaf : NamedLeaf). FoldsTo (λ p x q. CalledAtName g.F.FnMut p x tt q) c.args.visit.now (enumerate_from 0 leaf.names) c.backtrace.new.visit)
-    (sym (leaf_read c.self.inside.places c.self.inside.leaves.items c.args.i c.index.result.now (record { names = []; carried = [] })
+    (sym (leaf_read c.self.inside.places c.self.inside.leaves.items c.args.i c.index.result.now (record { path = []; names = []; carried = [] })
     (leaf_within c.self.inside.places c.self.inside.leaves.items c.args.self.now c.args.i c.self.view_is c.requires.within) c.index.ensures))
     c.backtrace.ensures.called)
