@@ -12,25 +12,26 @@ use Rattle.hir_number.specs.declared.numbered.NumberedType.{NumberedType}
 use Rattle.hir_number.specs.declared.numbered.Target.{Target}
 use Rattle.hir_number.specs.declared.signature.NumberedSignature.{NumberedSignature}
 use Rattle.hir_skeleton.specs.Edges.{ShallowEdge, shallow_edges}
-use Rattle.hir_skeleton.specs.Inputs.{param_skeleton}
+use Rattle.hir_skeleton.specs.Inputs.{is_slice_type, param_skeleton}
 use Rattle.hir_skeleton.specs.Leaves.{DeepLeaf, from_fields, in_field, input_leaves}
 use Rattle.hir_skeleton.specs.Lowered.{receiver_skeleton}
 use Rattle.hir_skeleton.specs.Skeletons.{Skeleton}
 use Rattle.hir_types.specs.Types.{is_option}
 use Rattle.hir_types.specs.declared.self_types.SelfType.{SelfType}
 use Rattle.hir_readings.specs.Knowing.{known_as}
-use Rattle.hir_readings.specs.NumberedSkeletons.{numbered_skeleton, own_skeleton, stands_in_option}
+use Rattle.hir_readings.specs.NumberedSkeletons.{numbered_skeleton, own_skeleton, stands_for_slice, stands_in_option}
 
 -- ---- inputs
 
--- an input: its skeleton, and whether it stands in an option
+-- an input: its skeleton, whether it stands in an option, and whether it is a slice
 pub record Input (K : Type 0) : Type 0 where
   pub skeleton : Skeleton K
   pub optional : Bool
+  pub slice : Bool
 
 -- the same where structs are known otherwise
 abbrev pub input_known_as : {K L : Type 0} → (K → L) → Input K → Input L
-input_known_as f input = record { skeleton = known_as f input.skeleton; optional = input.optional }
+input_known_as f input = record { skeleton = known_as f input.skeleton; optional = input.optional; slice = input.slice }
 
 -- ---- what is read off them
 
@@ -46,11 +47,11 @@ edges_of_inputs test inputs = map (λ input. shallow_edges test input.optional i
 -- ---- of a numbered signature
 
 abbrev pub numbered_input : Catalog → NumberedType → Input ItemPlace
-numbered_input catalog ty = record { skeleton = numbered_skeleton catalog ty; optional = stands_in_option ty }
+numbered_input catalog ty = record { skeleton = numbered_skeleton catalog ty; optional = stands_in_option ty; slice = stands_for_slice ty }
 
--- a receiver stands in no option
+-- a receiver stands in no option, and is no slice
 abbrev pub own_input : Catalog → Option (MaybeStatic ℕ × Mutability) → Target → Input ItemPlace
-own_input catalog borrow target = record { skeleton = own_skeleton catalog borrow target; optional = false }
+own_input catalog borrow target = record { skeleton = own_skeleton catalog borrow target; optional = false; slice = false }
 
 abbrev pub numbered_inputs : Catalog → NumberedSignature → List (Input ItemPlace)
 numbered_inputs catalog n = where_any (λ target. own_input catalog n.borrow target ∷ []) n.own ++ map (numbered_input catalog) n.params
@@ -58,10 +59,10 @@ numbered_inputs catalog n = where_any (λ target. own_input catalog n.borrow tar
 -- ---- of a lowered method
 
 abbrev pub lowered_input : ParamType → Input TypeId
-lowered_input ty = record { skeleton = param_skeleton ty; optional = is_option ty }
+lowered_input ty = record { skeleton = param_skeleton ty; optional = is_option ty; slice = is_slice_type ty }
 
 abbrev pub receiver_input : SelfType → Input TypeId
-receiver_input ty = record { skeleton = receiver_skeleton ty; optional = false }
+receiver_input ty = record { skeleton = receiver_skeleton ty; optional = false; slice = false }
 
 abbrev pub lowered_inputs : Method → List (Input TypeId)
 lowered_inputs m = where_any (λ receiver. receiver_input receiver.ty ∷ []) m.param_self ++ map (λ param. lowered_input param.ty) m.params

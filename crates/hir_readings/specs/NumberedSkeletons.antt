@@ -101,3 +101,19 @@ level_in_option _ = false
 
 abbrev pub stands_in_option : NumberedType → Bool
 stands_in_option ty = level_in_option (out-NumberedType ty)
+
+-- whether a type that is no option is a slice
+abbrev pub level_inside_slice : NumberedType-F NumberedType → Bool
+level_inside_slice (NumberedType-F.StrReference l e d) = true
+level_inside_slice (NumberedType-F.StrSlice e d) = true
+level_inside_slice (NumberedType-F.PrimitiveSlice borrow p d) = true
+level_inside_slice (NumberedType-F.CustomTypeSlice borrow t d) = true
+level_inside_slice _ = false
+
+-- whether a type is a slice, or an option of one
+abbrev pub level_slice : NumberedType-F NumberedType → Bool
+level_slice (NumberedType-F.Option t d) = level_inside_slice (out-NumberedType t)
+level_slice x = level_inside_slice x
+
+abbrev pub stands_for_slice : NumberedType → Bool
+stands_for_slice ty = level_slice (out-NumberedType ty)
