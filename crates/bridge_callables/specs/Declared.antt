@@ -1,6 +1,6 @@
 -- The callables of declarations: the enabled methods of enabled structs, out-structs, opaques and enums, and then the enabled functions. A type
 -- is known by its number among those of its kind, in the order in which modules are gone through.
-use Rattle.std.specs.Prelude.{ℕ, List, [], ◌∷◌, ◌++◌, map, Option, Some, None, if◌then◌else◌}
+use Rattle.std.specs.Prelude.{ℕ, List, [], ◌∷◌, ◌++◌, map, Option, Some, None, if◌then◌else◌, is_some}
 use Rattle.std.specs.List.{enumerate_from, flat_map, zip}
 use Rattle.bridge_ast.specs.declared.place.ItemPlace.{ItemPlace}
 use Rattle.bridge_decl.specs.Names.{item_name}
@@ -15,7 +15,7 @@ use Rattle.bridge_places.specs.Places.{places_of}
 use Rattle.bridge_places.specs.declared.kinds.Kind.{Kind}
 use Rattle.bridge_places.specs.declared.kinds.Kind.TheVariants as kind
 use Rattle.bridge_report.specs.Callables.{Callable, CallableInput}
-use Rattle.bridge_report.specs.InContext.{is_there, outline}
+use Rattle.bridge_report.specs.InContext.{outline}
 use Rattle.bridge_report.specs.declared.report.CallableId.{CallableId}
 use Rattle.bridge_report.specs.declared.report.CallableId.TheVariants as callable
 use Rattle.hir_ids.specs.declared.ids.TypeId.{TypeId}
@@ -40,7 +40,7 @@ use Rattle.bridge_callables.specs.Names.{declared_input_names, declared_path_nam
 -- ---- of a numbered signature
 
 -- an input of a name
-abbrev pub named_input : List ℕ × Input ItemPlace → CallableInput
+abbrev pub named_input : {K : Type 0} → List ℕ × Input K → CallableInput
 named_input named =
     record { name = named.0; skeleton = outline named.1.skeleton; optional = named.1.optional; slice = named.1.slice }
 
@@ -56,7 +56,7 @@ signature_callable it id place receiver params n =
     record {
       id = id;
       place = place;
-      receiver = is_there receiver;
+      receiver = is_some receiver;
       environment = n.lifetimes;
       named = returned_lifetimes it.catalog n.output;
       inputs = map named_input (zip names (numbered_inputs it.catalog n));

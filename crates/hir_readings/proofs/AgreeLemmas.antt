@@ -45,7 +45,7 @@ use Rattle.hir_readings.proofs.MethodLemmas.{HasDeclared, HasFunction, HasInputs
 -- ---- what is found
 
 -- the item at a place is what is found there
-abbrev FoundAs : Option Item → Option (Module × Item) → Type 0
+abbrev pub FoundAs : Option Item → Option (Module × Item) → Type 0
 FoundAs None found = found ≡ None
 FoundAs (Some i) found = (owner : Module) × (found ≡ Some (owner, i))
 
@@ -57,7 +57,7 @@ found_in : (place : ItemPlace) (o : Option Module) → FoundAs (option_and_then 
 found_in place None = refl
 found_in place (Some owner) = beside owner (slice_get owner.items place.item)
 
-found : (modules : List Module) (place : ItemPlace) → FoundAs (item_of modules place) (found_at modules place)
+pub found : (modules : List Module) (place : ItemPlace) → FoundAs (item_of modules place) (found_at modules place)
 found modules place = found_in place (slice_get modules place.«module»)
 
 module _ (it : Interface) where
@@ -115,7 +115,7 @@ module _ (it : Interface) where
     param_skeletons [] = refl
     param_skeletons (param ∷ params) = ap (λ rest. param_skeleton param.ty ∷ rest) (param_skeletons params)
 
-    input_skeletons : (m : Method) → method_inputs m ≡ map (λ (input : Input TypeId). input.skeleton) (lowered_inputs m)
+    pub input_skeletons : (m : Method) → method_inputs m ≡ map (λ (input : Input TypeId). input.skeleton) (lowered_inputs m)
     input_skeletons m =
         ap (λ first. first ++ map (λ param. param_skeleton param.ty) m.params) (first_skeletons m.param_self)
         ∙ ap (λ rest. map (λ (input : Input TypeId). input.skeleton) (where_any (λ receiver. receiver_input receiver.ty ∷ []) m.param_self) ++ rest) (param_skeletons m.params)

@@ -25,7 +25,7 @@ use Rattle.hir_readings.proofs.ItemLemmas.{HaveDeclared}
 use Rattle.hir_readings.proofs.MethodLemmas.{HasFunction}
 
 -- what holds of definitions beside places holds where their uses are noted, if notes keep it
-used_zipped : {D Y : Type 0} (note : TypingUseInfo → D → D) (R : D → Y → Type 0) → ((u : TypingUseInfo) (d : D) (y : Y) → R d y → R (note u d) y)
+pub used_zipped : {D Y : Type 0} (note : TypingUseInfo → D → D) (R : D → Y → Type 0) → ((u : TypingUseInfo) (d : D) (y : Y) → R d y → R (note u d) y)
     → (us : List TypingUseInfo) (ds : List D) (ys : List Y) → AllZip R ds ys → AllZip R (each_used note us ds) ys
 used_zipped note R keeps [] ds ys all = all
 used_zipped note R keeps (u ∷ us) [] [] all = all
@@ -39,19 +39,19 @@ module _ (it : Interface) (defs : Definitions) (stands : StandForItems it defs) 
 
   -- ---- lists of a context
 
-  structs_are : defs.structs.defs ≡ each_used struct_used (usages_among stands.lowered).structs stands.lowered.structs.items
+  pub structs_are : defs.structs.defs ≡ each_used struct_used (usages_among stands.lowered).structs stands.lowered.structs.items
   structs_are = stands.listed.structs.definitions ∙ stands.noted.structs
 
-  out_structs_are : defs.out_structs.defs ≡ each_used struct_used (usages_among stands.lowered).out_structs stands.lowered.out_structs.items
+  pub out_structs_are : defs.out_structs.defs ≡ each_used struct_used (usages_among stands.lowered).out_structs stands.lowered.out_structs.items
   out_structs_are = stands.listed.out_structs.definitions ∙ stands.noted.out_structs
 
-  opaques_are : defs.opaques.defs ≡ each_used opaque_used (usages_among stands.lowered).opaques stands.lowered.opaques.items
+  pub opaques_are : defs.opaques.defs ≡ each_used opaque_used (usages_among stands.lowered).opaques stands.lowered.opaques.items
   opaques_are = stands.listed.opaques.definitions ∙ stands.noted.opaques
 
-  enums_are : defs.enums.defs ≡ each_used enum_used (usages_among stands.lowered).enums stands.lowered.enums.items
+  pub enums_are : defs.enums.defs ≡ each_used enum_used (usages_among stands.lowered).enums stands.lowered.enums.items
   enums_are = stands.listed.enums.definitions ∙ stands.noted.enums
 
-  functions_are : defs.functions.defs ≡ stands.lowered.functions.items
+  pub functions_are : defs.functions.defs ≡ stands.lowered.functions.items
   functions_are = stands.listed.functions.definitions ∙ stands.noted.functions
 
   abbrev in_struct : InputStruct → ItemPlace → Type 0

@@ -77,12 +77,12 @@ module _ (s : Setting) where
   unless_disabled read false form declared h = h
 
 -- of what is made of two parts
-of_first : {A B D : Type 0} (Q : A → Type 0) (R : D → Type 0) (f : A → B → D) → ((a : A) (b : B) → Q a → R (f a b)) → (x : Option A) (y : Option B) → IfSome x Q → IfSome (both_given f x y) R
+pub of_first : {A B D : Type 0} (Q : A → Type 0) (R : D → Type 0) (f : A → B → D) → ((a : A) (b : B) → Q a → R (f a b)) → (x : Option A) (y : Option B) → IfSome x Q → IfSome (both_given f x y) R
 of_first Q R f makes (Some a) (Some b) h = makes a b h
 of_first Q R f makes (Some a) None h = tt
 of_first Q R f makes None y h = tt
 
-of_second : {A B D : Type 0} (Q : B → Type 0) (R : D → Type 0) (f : A → B → D) → ((a : A) (b : B) → Q b → R (f a b)) → (x : Option A) (y : Option B) → IfSome y Q → IfSome (both_given f x y) R
+pub of_second : {A B D : Type 0} (Q : B → Type 0) (R : D → Type 0) (f : A → B → D) → ((a : A) (b : B) → Q b → R (f a b)) → (x : Option A) (y : Option B) → IfSome y Q → IfSome (both_given f x y) R
 of_second Q R f makes (Some a) (Some b) h = makes a b h
 of_second Q R f makes (Some a) None h = tt
 of_second Q R f makes None y h = tt
@@ -118,15 +118,15 @@ module _ (s : Setting) (place : ItemPlace) (set : Attrs) where
 
 -- ---- at places
 
-first_made : {D : Type 0} (P : D → Type 0) (b : Bool) (o : Option D) → IfSome o P → IfSome (if b then o else None) P
+pub first_made : {D : Type 0} (P : D → Type 0) (b : Bool) (o : Option D) → IfSome o P → IfSome (if b then o else None) P
 first_made P true o h = h
 first_made P false o h = tt
 
-second_made : {D : Type 0} (P : D → Type 0) (b : Bool) (o : Option D) → IfSome o P → IfSome (if b then None else o) P
+pub second_made : {D : Type 0} (P : D → Type 0) (b : Bool) (o : Option D) → IfSome o P → IfSome (if b then None else o) P
 second_made P true o h = tt
 second_made P false o h = h
 
-made_at : {D : Type 0} (it : Interface) (made : ItemMaking D) (place : ItemPlace) (P : Option (Module × Item) → D → Type 0)
+pub made_at : {D : Type 0} (it : Interface) (made : ItemMaking D) (place : ItemPlace) (P : Option (Module × Item) → D → Type 0)
     → ((owner : Module) (i : Item) → IfSome (form_of it made place (owner, i)) (P (Some (owner, i)))) → IfSome (form_at it made place) (P (found_at it.modules place))
 made_at {D} it made place P makes = of_found (found_at it.modules place) where
   of_found : (o : Option (Module × Item)) → IfSome (option_and_then (form_of it made place) o) (P o)
@@ -193,7 +193,7 @@ module _ (it : Interface) (place : ItemPlace) where
   of_out_struct owner (item.Trait declared) = tt
   of_out_struct owner (item.Function declared) = tt
 
-  of_one : {A D : Type 0} (Q : A → Type 0) (R : D → Type 0) (f : A → D) → ((a : A) → Q a → R (f a)) → (x : Option A) → IfSome x Q → IfSome (option_map f x) R
+  pub of_one : {A D : Type 0} (Q : A → Type 0) (R : D → Type 0) (f : A → D) → ((a : A) → Q a → R (f a)) → (x : Option A) → IfSome x Q → IfSome (option_map f x) R
   of_one Q R f makes (Some a) h = makes a h
   of_one Q R f makes None h = tt
 

@@ -1,5 +1,6 @@
 pub mod FormedLemmas
 pub mod ShapedLemmas
+pub mod SliceLemmas
 pub mod TypeLemmas
 pub mod NamedLemmas
 pub mod ReturnLemmas

@@ -15,7 +15,7 @@ use Rattle.hir_life.specs.declared.maybe_static.MaybeStatic.{MaybeStatic}
 use Rattle.hir_number.specs.declared.numbered.NumberedType.{NumberedType, out-NumberedType}
 use Rattle.hir_number.specs.declared.numbered.NumberedType.TheOpen.{NumberedType-F}
 use Rattle.hir_number.specs.declared.numbered.Target.{Target}
-use Rattle.hir_skeleton.specs.Inputs.{param_skeleton}
+use Rattle.hir_skeleton.specs.Inputs.{is_slice_type, param_skeleton}
 use Rattle.hir_skeleton.specs.Lowered.{field_skeleton, receiver_skeleton}
 use Rattle.hir_skeleton.specs.Skeletons.{Nothing, Struct}
 use Rattle.hir_types.specs.Types.{is_option}
@@ -23,14 +23,19 @@ use Rattle.hir_types.specs.declared.self_types.SelfType.{SelfType}
 use Rattle.hir_types.specs.declared.types.HirType.TheOpen.{HirType-F}
 use Rattle.hir_readings.specs.Inputs.{input_known_as, lowered_input, numbered_input, own_input, receiver_input}
 use Rattle.hir_readings.specs.Knowing.{id_there, known_as, type_id_of}
-use Rattle.hir_readings.specs.NumberedSkeletons.{lent_skeleton, level_in_option, level_skeleton, numbered_skeleton, own_skeleton, stands_in_option, value_skeleton}
+use Rattle.hir_readings.specs.NumberedSkeletons.{lent_skeleton, level_in_option, level_skeleton, numbered_skeleton, own_skeleton, stands_for_slice, stands_in_option, value_skeleton}
 use Rattle.hir_readings.proofs.FormedLemmas.{rolled, shape_made}
 use Rattle.hir_readings.proofs.ShapedLemmas.{shape_has}
+use Rattle.hir_readings.proofs.SliceLemmas.{param_slice}
 
 -- what is known of all that there is
 pub if_some : {A : Type 0} (P Q : A → Type 0) → ((a : A) → P a → Q a) → (o : Option A) → IfSome o P → IfSome o Q
 if_some P Q so (Some a) h = so a h
 if_some P Q so None h = tt
+
+if_both : {A : Type 0} (P Q R : A → Type 0) → ((a : A) → P a → Q a → R a) → (o : Option A) → IfSome o P → IfSome o Q → IfSome o R
+if_both P Q R so (Some a) h k = so a h k
+if_both P Q R so None h k = tt
 
 pub if_mapped : {A B : Type 0} (P : B → Type 0) (f : A → B) → ((a : A) → P (f a)) → (x : Option A) → IfSome (option_map f x) P
 if_mapped P f makes (Some a) = makes a
@@ -62,8 +67,8 @@ module _ (catalog : Catalog) where
 
   pub param_has : (ty : NumberedType) → IfSome (param_form catalog ty) (λ t. lowered_input t ≡ input_known_as (id_there catalog) (numbered_input catalog ty))
   param_has ty =
-      if_some (Alike (out-NumberedType ty)) (λ t. lowered_input t ≡ input_known_as (id_there catalog) (numbered_input catalog ty))
-      (λ t alike i. record { skeleton = alike.0 i; optional = alike.1 i }) (param_form catalog ty) (param_alike ty)
+      if_both (Alike (out-NumberedType ty)) (λ t. is_slice_type t ≡ stands_for_slice ty) (λ t. lowered_input t ≡ input_known_as (id_there catalog) (numbered_input catalog ty))
+      (λ t alike same i. record { skeleton = alike.0 i; optional = alike.1 i; slice = same i }) (param_form catalog ty) (param_alike ty) (param_slice catalog ty)
 
   -- ---- receivers
 
@@ -97,4 +102,4 @@ module _ (catalog : Catalog) where
   pub input_received : (borrow : Option (MaybeStatic ℕ × Mutability)) (t : Target) → IfSome (receiver_form catalog borrow t) (λ r. receiver_input r ≡ input_known_as (id_there catalog) (own_input catalog borrow t))
   input_received borrow t =
       if_some (λ r. receiver_skeleton r ≡ known_as (id_there catalog) (own_skeleton catalog borrow t)) (λ r. receiver_input r ≡ input_known_as (id_there catalog) (own_input catalog borrow t))
-      (λ r same i. record { skeleton = same i; optional = false }) (receiver_form catalog borrow t) (receiver_has borrow t)
+      (λ r same i. record { skeleton = same i; optional = false; slice = false }) (receiver_form catalog borrow t) (receiver_has borrow t)
