@@ -32,18 +32,18 @@ use Rattle.hir_reports.specs.Store.{at_place}
 use Rattle.hir_reports.specs.declared.places.ErrorContext.{ErrorContext}
 use Rattle.hir_skeleton.specs.Inputs.{fields_in, input_names, input_struct, method_inputs, method_leaves, path_names}
 use Rattle.hir_skeleton.specs.Leaves.{DeepLeaf}
-use Rattle.hir_skeleton.specs.NamedLeaves.{NamedLeaf, borrowing_leaves, leaf_named}
+use Rattle.hir_skeleton.specs.NamedLeaves.{borrowing_leaves, leaf_named}
 use Rattle.hir_skeleton.specs.Skeletons.{Skeleton, Nothing, Carrier, Struct}
-use Rattle.hir_readings.specs.Declared.{declared_fields, declared_methods, found_function, method_signature}
+use Rattle.hir_readings.specs.Declared.{declared_fields, found_function, method_signature}
 use Rattle.hir_readings.specs.Inputs.{Input, input_known_as, lowered_input, lowered_inputs, numbered_inputs, receiver_input}
 use Rattle.hir_readings.specs.Knowing.{id_there, known_as}
-use Rattle.hir_readings.specs.Readings.{IsFunctionRead, IsReadAsDeclared, IsReadLike, declared_leaves}
+use Rattle.hir_readings.specs.Readings.{IsFunctionRead, IsReadAsDeclared, IsReadLike}
 use Rattle.hir_readings.proofs.AgreeLemmas.{input_skeletons}
 use Rattle.bridge_callables.specs.Declared.{declared_name, declared_named_leaves, found_function_callable, method_callable, named_input, numbered_callable, signature_callable}
 use Rattle.bridge_callables.specs.Names.{declared_field_names, declared_input_names, declared_path_names}
 use Rattle.bridge_callables.proofs.FieldNames.{names_in}
 use Rattle.bridge_callables.proofs.ItemNames.{IsFoundFunction}
-use Rattle.bridge_callables.proofs.MethodNames.{IsMarkedFunction, IsNamed, IsNamedMethod}
+use Rattle.bridge_callables.proofs.MethodNames.{IsNamed, IsNamedMethod}
 use Rattle.bridge_callables.proofs.PathLemmas.{path_same}
 
 -- ---- lists

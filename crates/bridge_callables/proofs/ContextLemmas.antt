@@ -1,5 +1,5 @@
 -- The callables of a context that stands for declarations are those of the declarations, kind by kind.
-use Rattle.std.proofs.Common.{◌≡◌, ℕ, zero, suc, ◌+◌, List, [], ◌∷◌, ◌++◌, map, Option, Some, None, refl, sym, ap, subst, ◌∙◌, arith}
+use Rattle.std.proofs.Common.{◌≡◌, ℕ, zero, suc, ◌+◌, List, [], ◌∷◌, ◌++◌, map, Some, refl, sym, ap, subst, ◌∙◌, arith}
 use Rattle.std.specs.Prelude.{slice_get, slice_index_or}
 use Rattle.std.specs.List.{AllZip, enumerate_from, flat_map}
 use Rattle.std.proofs.lemmas.Option.{none-some, same_Some}
@@ -29,7 +29,7 @@ use Rattle.hir_readings.specs.Knowing.{id_there}
 use Rattle.hir_readings.specs.Readings.{AreReadAsDeclared, IsFunctionRead}
 use Rattle.hir_readings.proofs.ContextLemmas.{context_enums, context_fields, context_functions, context_opaques, context_out_structs, context_structs, enums_are, functions_are, opaques_are, out_structs_are, structs_are, used_zipped}
 use Rattle.hir_readings.proofs.JoinLemmas.{all_zipped, known_made}
-use Rattle.bridge_callables.specs.Declared.{declared_callables, declared_function_callable, found_function_callable, kind_callables, type_callables}
+use Rattle.bridge_callables.specs.Declared.{declared_callables, declared_function_callable, kind_callables, type_callables}
 use Rattle.bridge_callables.specs.Names.{declared_field_names}
 use Rattle.bridge_callables.proofs.CallableLemmas.{by_path, function_same, methods_same}
 use Rattle.bridge_callables.proofs.FieldNames.{field_names_at, names_in, names_there}

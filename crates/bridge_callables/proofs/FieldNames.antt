@@ -39,7 +39,7 @@ use Rattle.hir_stages.specs.Filling.{fill_each, fill_type}
 use Rattle.hir_types.specs.SelfTypes.{FieldType}
 use Rattle.hir_readings.specs.Knowing.{id_there, type_id_of}
 use Rattle.hir_readings.proofs.AgreeLemmas.{FoundAs, found}
-use Rattle.hir_readings.proofs.ItemLemmas.{made_at, of_first, second_made}
+use Rattle.hir_readings.proofs.ItemLemmas.{made_at, of_first}
 use Rattle.hir_readings.proofs.JoinLemmas.{all_zipped, zipped_at}
 use Rattle.bridge_callables.specs.Names.{declared_field_names, found_field_names, struct_field_names}
 use Rattle.bridge_callables.proofs.MethodNames.{any_at_all}

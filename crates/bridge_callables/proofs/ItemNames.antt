@@ -1,5 +1,5 @@
 -- What items are lowered to has the declared names, and so have its methods.
-use Rattle.std.proofs.Common.{◌≡◌, ℕ, List, [], ◌∷◌, map, Bool, true, false, Option, Some, None, if◌then◌else◌, refl}
+use Rattle.std.proofs.Common.{◌≡◌, ℕ, List, [], Bool, true, false, Option, Some, if◌then◌else◌, refl}
 use Rattle.std.specs.Prelude.{IfSome}
 use Rattle.std.specs.List.{AllZip, filter}
 use Rattle.bridge_ast.specs.declared.place.ItemPlace.{ItemPlace}
@@ -11,7 +11,6 @@ use Rattle.bridge_decl.specs.declared.modules.Item.TheVariants as item
 use Rattle.bridge_decl.specs.declared.modules.Module.{Module}
 use Rattle.hir_attrs.specs.declared.attrs.Attrs.{Attrs}
 use Rattle.hir_definitions.specs.declared.methods.Method.{Method}
-use Rattle.hir_form.specs.ReturnForms.{both_given}
 use Rattle.hir_items.specs.Enums.{enum_with}
 use Rattle.hir_items.specs.Inheriting.{item_marks, item_start, method_start}
 use Rattle.hir_items.specs.Opaques.{opaque_with}
@@ -23,10 +22,9 @@ use Rattle.hir_lowering.specs.Kinds.{enum_made, function_made, opaque_made, out_
 use Rattle.hir_lowering.specs.Placing.{form_at, form_of, found_at}
 use Rattle.hir_mentions.specs.Mentions.{where_any}
 use Rattle.hir_modules.specs.ModuleMarks.{module_marks}
-use Rattle.hir_readings.specs.Declared.{declared_methods, enabled_methods_of, found_methods}
+use Rattle.hir_readings.specs.Declared.{enabled_methods_of, found_methods}
 use Rattle.hir_readings.proofs.ItemLemmas.{first_made, made_at, of_one, of_second, second_made}
 use Rattle.hir_readings.proofs.JoinLemmas.{all_zipped}
-use Rattle.bridge_callables.specs.Declared.{declared_name}
 use Rattle.bridge_callables.proofs.MethodNames.{IsMarkedFunction, IsNamedMethod, function_named, method_named}
 
 abbrev pub AreNamedMethods : List Method → List DeclaredMethod → Type 0

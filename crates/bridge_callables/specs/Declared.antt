@@ -49,7 +49,7 @@ abbrev pub declared_named_leaves : Interface → List (List ℕ) → NumberedSig
 declared_named_leaves it names n =
     map (leaf_named (declared_path_names it names (map (λ input. input.skeleton) (numbered_inputs it.catalog n)))) (declared_leaves it n)
 
--- the callable of that id and place, with that receiver and these parameters, of which the trailing writer is none
+-- the callable of that id and place, with that receiver and these parameters, where the trailing writer is left out
 abbrev pub signature_callable : Interface → CallableId → ErrorContext → Option SelfParam → List Param → NumberedSignature → Callable
 signature_callable it id place receiver params n =
     let names = declared_input_names receiver params in

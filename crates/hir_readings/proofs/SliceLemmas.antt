@@ -1,19 +1,19 @@
 -- What a type stands for is a slice, or an option of one, exactly where the numbered type is.
-use Rattle.std.proofs.Common.{◌≡◌, Bool, true, false, Option, Some, None, refl, ap, ◌∙◌}
+use Rattle.std.proofs.Common.{◌≡◌, Bool, true, false, Option, Some, None, refl, ◌∙◌}
 use Rattle.std.specs.Prelude.{⊤, IfSome, option_map}
 use Rattle.bridge_decl.specs.declared.types.StdlibOrDiplomat.{StdlibOrDiplomat}
 use Rattle.bridge_order.specs.Catalog.{entry_at}
 use Rattle.bridge_order.specs.declared.catalog.Catalog.{Catalog}
 use Rattle.bridge_order.specs.declared.catalog.Entry.{Entry}
 use Rattle.bridge_order.specs.declared.catalog.Entry.TheVariants as entry
-use Rattle.bridge_rules.specs.Shapes.{box_shape, item_shape, lent_for, level_entry, level_option, named_entry, option_of_box, option_of_item, option_of_reference, reference_shape, shape_of, shape_of_level}
+use Rattle.bridge_rules.specs.Shapes.{box_shape, item_shape, lent_for, level_option, named_entry, option_of_box, option_of_item, option_of_reference, reference_shape, shape_of, shape_of_level}
 use Rattle.bridge_rules.specs.declared.shape.Shape.{Shape}
 use Rattle.bridge_rules.specs.declared.shape.Shape.TheVariants as shape
 use Rattle.bridge_rules.specs.declared.shape.Value.{Value}
 use Rattle.bridge_rules.specs.declared.shape.Value.TheVariants as value
-use Rattle.hir_form.specs.Forms.{Generics, callback_type, elements_form, enum_path, flat_form, opaque_path, option_type, primitive_form, shape_form, slice_type, struct_path, struct_type, trait_path, trait_type, value_form}
+use Rattle.hir_form.specs.Forms.{Generics, callback_type, elements_form, enum_path, flat_form, opaque_path, option_type, primitive_form, shape_form, slice_type, struct_path, trait_path, trait_type, value_form}
 use Rattle.hir_form.specs.Makers.{coming_in}
-use Rattle.hir_form.specs.ParamForms.{ParamType, callback_form, input_form, level_param_form, param_form}
+use Rattle.hir_form.specs.ParamForms.{callback_form, input_form, level_param_form, param_form}
 use Rattle.hir_form.specs.TypeForms.{generics_in}
 use Rattle.hir_ids.specs.Owners.{owner_of}
 use Rattle.hir_ids.specs.declared.owners.Borrow.{Borrow}
