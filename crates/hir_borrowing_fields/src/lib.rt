@@ -37,9 +37,9 @@
 //! # What it costs
 //!
 //! Leaves share the names and numbers of what they stand in, so a leaf takes the room of its own
-//! name and number and of what it carries. Structs nest 256 deep at most, and no walk goes deeper. Where structs hold
-//! many others and no leaf, each is looked into once for each number of levels, and not each time
-//! that it is held.
+//! name and number and of what it carries. Structs nest 256 deep at most, and no walk goes deeper.
+//! Where structs hold many others and no leaf, each is looked into once for each number of levels,
+//! and not each time that it is held.
 //!
 //! Named as in the crate `diplomat_core`, whose module `hir::methods::borrowing_field` this
 //! restates.

@@ -1,11 +1,11 @@
 //! Places, each with the steps that lead to it.
 
-ghost use Rattle.std.specs.Prelude.{◌≡◌, ◌<◌, [], ◌∷◌, ◌++◌, length, slice_index_or, codes, Some, IfOk, OnOk, OnErr};
+ghost use Rattle.std.specs.Prelude.{◌≡◌, ◌<◌, [], ◌∷◌, ◌++◌, length, slice_index_or, codes, Some, OnOk, OnErr};
 ghost use Rattle.std.specs.Fmt.{DisplaysOnOk};
 ghost use Rattle.std.specs.List.{FoldsTo, enumerate_from};
 ghost use Rattle.bridge_decl.specs.Names.{joined};
 ghost use Rattle.hir_borrowing_fields.specs.Calls.{CalledAtName, TriesEach};
-ghost use Rattle.hir_borrowing_fields.specs.inside.Places.{IsAbove, HasStepIn, IsPlaceIn, IsRootedAt, Step, own_step, step_names, step_numbers, steps_at, steps_to};
+ghost use Rattle.hir_borrowing_fields.specs.inside.Places.{IsAbove, HasStepIn, IsPlaceIn, IsRootedAt, Step, step_names, step_numbers, steps_to};
 
 use bridge_decl::{IdentBuf, Items, NoMemory};
 use std::alloc::Global;

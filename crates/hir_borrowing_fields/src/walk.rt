@@ -1,6 +1,6 @@
 //! The walk over structs, from field to field.
 
-ghost use Rattle.std.specs.Prelude.{◌≡◌, ◌<◌, [], ◌∷◌, ◌++◌, length, map, Some, IsTrue, OnOk};
+ghost use Rattle.std.specs.Prelude.{◌≡◌, ◌<◌, [], length, map, Some, IsTrue, OnOk};
 ghost use Rattle.std.specs.List.{All};
 ghost use Rattle.hir_ids.specs.declared.ids.TypeId.{TypeId};
 ghost use Rattle.hir_ids.specs.declared.ids.TypeId.TheVariants as type;
