@@ -1,3 +1,3 @@
 pub mod There
 pub mod Listed
-mod Gathered
+pub mod Gathered

@@ -1,0 +1,6 @@
+mod TextLemmas
+mod SegmentLemmas
+mod WalkLemmas
+mod InputLemmas
+mod EdgeLemmas
+mod PageLemmas

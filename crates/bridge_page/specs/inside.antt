@@ -1,0 +1,4 @@
+-- What the calls tell one another.
+pub mod Printed
+pub mod Segments
+pub mod Walked
