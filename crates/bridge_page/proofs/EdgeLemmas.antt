@@ -1,5 +1,5 @@
 -- Edges are printed with the names of their inputs.
-use Rattle.std.proofs.Common.{◌≡◌, ℕ, zero, suc, ◌+◌, Bool, true, false, List, [], ◌∷◌, ◌++◌, map, Option, Some, None, refl, sym, ap, ◌∙◌, arith}
+use Rattle.std.proofs.Common.{◌≡◌, ℕ, suc, ◌+◌, Bool, true, false, List, [], ◌∷◌, ◌++◌, map, Option, Some, None, refl, ap, ◌∙◌, arith}
 use Rattle.std.specs.Bool.{⊤}
 use Rattle.std.specs.Prelude.{slice_get, is_some}
 use Rattle.std.specs.List.{enumerate_from, flat_map}
@@ -38,10 +38,11 @@ inputs_named : (receiver : Option ParamSelf) (params : List Param)
 inputs_named None params =
     params_named (λ n. place_name params (input_place false n)) 0 params
     (λ i e p is at. let same : e ≡ i = omega arith in ap (λ n. place_name params (input_place false n)) same ∙ ap (where_any (λ (param : Param). param.name)) at)
-inputs_named (Some receiver) params =
-    (refl,
-    params_named (λ n. place_name params (input_place true n)) 1 params
-    (λ i e p is at. let same : e ≡ suc i = omega arith in ap (λ n. place_name params (input_place true n)) same ∙ ap (where_any (λ (param : Param). param.name)) at))
+inputs_named (Some receiver) params = (
+  refl,
+  params_named (λ n. place_name params (input_place true n)) 1 params
+      (λ i e p is at. let same : e ≡ suc i = omega arith in ap (λ n. place_name params (input_place true n)) same ∙ ap (where_any (λ (param : Param). param.name)) at),
+)
 
 module _ (m : Method) where
   -- the edges of an input by its place

@@ -1,7 +1,7 @@
 -- What is printed of reports is the page of the callables.
-use Rattle.std.proofs.Common.{◌≡◌, ℕ, zero, suc, ◌<◌, Bool, List, [], ◌∷◌, ◌++◌, length, map, get_or, Option, Some, refl, sym, ap, subst, ◌∙◌}
+use Rattle.std.proofs.Common.{◌≡◌, ℕ, zero, suc, ◌<◌, Bool, List, [], ◌∷◌, ◌++◌, length, map, get_or, Some, refl, sym, ap, subst, ◌∙◌}
 use Rattle.std.specs.Prelude.{slice_get, codes, decimal, IsSome, is_some}
-use Rattle.std.specs.List.{AllZip, filter, flat_map}
+use Rattle.std.specs.List.{AllZip, flat_map}
 use Rattle.std.proofs.lemmas.List.Folds.{flat_map-map}
 use Rattle.std.proofs.lemmas.Option.{slice_get_read}
 use Rattle.hir_context.specs.Iterating.{all_types}
@@ -15,14 +15,14 @@ use Rattle.hir_skeleton.specs.NamedLeaves.{NamedLeaf}
 use Rattle.bridge_report.specs.Borrowings.{AreReported, IsReported, IsReturned, held_edges, leaf_path, listed_leaves, passes}
 use Rattle.bridge_report.specs.Callables.{Callable}
 use Rattle.bridge_report.specs.InContext.{callable_at, callable_of, callables, method_at}
-use Rattle.bridge_report.specs.Page.{IsCallableText, IsPage, IsReturnedText, edge_texts, edges_line, leaf_text, leaves_line, list_text}
+use Rattle.bridge_report.specs.Page.{IsCallableText, IsPage, IsReturnedText, edge_texts, leaf_text, leaves_line, list_text}
 use Rattle.bridge_report.specs.declared.report.CallableId.{CallableId}
 use Rattle.bridge_report.specs.declared.report.CallableReport.{CallableReport}
 use Rattle.bridge_report.specs.declared.report.ReturnedLifetime.{ReturnedLifetime}
 use Rattle.bridge_report.specs.inside.Ids.{ids_of, type_ids}
 use Rattle.bridge_report.proofs.Gathered.{gathered_give}
 use Rattle.bridge_report.proofs.There.{callable_made}
-use Rattle.bridge_page.specs.inside.Printed.{callable_line, callable_text, end_line, path_text, printed_page, report_edge_text, report_edges_line, returned_text, paths_line}
+use Rattle.bridge_page.specs.inside.Printed.{callable_line, callable_text, end_line, path_text, printed_page, report_edge_text, report_edges_line, returned_text}
 use Rattle.bridge_page.proofs.EdgeLemmas.{edges_told}
 use Rattle.bridge_page.proofs.InputLemmas.{leaves_told}
 use Rattle.bridge_page.proofs.TextLemmas.{list_map}

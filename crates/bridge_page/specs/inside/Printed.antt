@@ -1,5 +1,5 @@
 -- What is printed of reports, piece by piece: names are looked up in the context.
-use Rattle.std.specs.Prelude.{ℕ, List, [], ◌∷◌, ◌++◌, Bool, Option, Some, None, codes, decimal, length, option_map, slice_get}
+use Rattle.std.specs.Prelude.{ℕ, List, ◌++◌, Option, codes, decimal, length, option_map, slice_get}
 use Rattle.std.specs.List.{flat_map}
 use Rattle.hir_context.specs.declared.parts.Definitions.{Definitions}
 use Rattle.hir_definitions.specs.declared.methods.Method.{Method}

@@ -1,4 +1,3 @@
-use Rattle.hir_mentions.specs.Mentions.{where_any}
 use Rattle.bridge_outside.proofs.PrintingLaws.{◌⨟◌, prints_same}
 use Rattle.bridge_report.specs.InContext.{callable_at}
 use Rattle.bridge_report.specs.Places.{shown_place}

@@ -1,4 +1,4 @@
-use Rattle.std.proofs.Common.{List, ℕ, [], ◌∷◌, ap, ◌∙◌}
+use Rattle.std.proofs.Common.{[], ◌∷◌, ap}
 use Rattle.hir_mentions.specs.Mentions.{where_any}
 use Rattle.bridge_outside.proofs.PrintingLaws.{◌⨟◌, prints_nothing, prints_same}
 use Rattle.bridge_page.specs.inside.Printed.{dotted}
