@@ -1,0 +1,3 @@
+mod Edging
+mod Leafing
+mod Reporting

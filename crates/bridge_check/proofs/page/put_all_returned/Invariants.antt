@@ -1,8 +1,0 @@
-use Rattle.std.proofs.Common.{take}
-use Rattle.std.specs.List.{flat_map}
-use Rattle.bridge_check.specs.Page.{returned_text}
-use Rattle.bridge_outside.specs.Printing.{Prints}
-use Rattle.bridge_check.proofs.page.put_all_returned.Given as goal
-
-abbrev pub invariant-loop-lifetime : goal.invariant-loop-lifetime
-invariant-loop-lifetime g l = Prints (g.K.Sink.state l.fn.sink) l.fn.out (g.K.Sink.state l.sink) l.out (flat_map (returned_text l.method) (take l.lifetime-index l.returned))

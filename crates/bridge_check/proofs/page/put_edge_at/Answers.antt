@@ -1,5 +1,0 @@
-use Rattle.bridge_outside.proofs.PrintingLaws.{◌⨟◌}
-use Rattle.bridge_check.proofs.page.put_edge_at.Goals as goal
-
-pub returns : goal.returns
-returns g c = c.put_separator.ensures ⨟ c.put_edge.ensures

@@ -1,5 +1,0 @@
-use Rattle.bridge_outside.proofs.PrintingLaws.{◌⨟◌}
-use Rattle.bridge_check.proofs.page.put_returned.Goals as goal
-
-pub returns : goal.returns
-returns g c = c.put_paths_line.ensures ⨟ c.put_edges_line.ensures

@@ -1,4 +1,0 @@
-pub mod Listing
-pub mod Reporting
-pub mod Signatures
-pub mod TextParts

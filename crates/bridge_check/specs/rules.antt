@@ -1,3 +1,0 @@
-pub mod BadIdent
-pub mod UnresolvedPath
-pub mod LifetimeUnknown
