@@ -1,0 +1,133 @@
+-- From what a context is, and what its callables may borrow, to what declarations are answered with.
+use Rattle.std.proofs.Common.{◌≡◌, ◌≢◌, ℕ, List, [], ◌∷◌, Result, Ok, Err, refl, sym, ap, subst, ◌∙◌, arith, inl, inr}
+use Rattle.std.specs.Prelude.{◌⊎◌}
+use Rattle.std.specs.List.{Contains}
+use Rattle.bridge_callables.specs.Declared.{declared_callables}
+use Rattle.bridge_decl.specs.declared.modules.Module.{Module}
+use Rattle.bridge_order.specs.declared.catalog.Catalog.{Catalog}
+use Rattle.bridge_places.specs.Entries.{IsCatalog}
+use Rattle.bridge_report.specs.Borrowings.{AreReported}
+use Rattle.bridge_report.specs.Callables.{Callable}
+use Rattle.bridge_report.specs.InContext.{callables}
+use Rattle.bridge_report.specs.Limits.{LeavesBreak, leaf_reports}
+use Rattle.bridge_report.specs.declared.report.BridgeReport.{BridgeReport}
+use Rattle.bridge_telling.specs.Telling.{TellsPlaces}
+use Rattle.hir_backends.specs.Backend.{Backend}
+use Rattle.hir_config.specs.declared.config.LoweringConfig.{LoweringConfig}
+use Rattle.hir_context.specs.declared.context.TypeContext.{TypeContext}
+use Rattle.hir_context.specs.declared.parts.Definitions.{Definitions}
+use Rattle.hir_lower.specs.Acceptance.{HoldsByCatalog}
+use Rattle.hir_lower.specs.Answers.{AnswersDeclarations, AreStoodFor, AreToldOf}
+use Rattle.hir_lower.specs.Contexts.{StandForItems}
+use Rattle.hir_lower.specs.declared.fault.LowerFault.{LowerFault}
+use Rattle.hir_lower.specs.declared.fault.LowerFault.TheVariants as fault
+use Rattle.hir_lowering.specs.Interface.{Interface}
+use Rattle.hir_lowering.specs.Walks.{interface_of}
+use Rattle.hir_naming.specs.Meaning.{naming_of}
+use Rattle.hir_reports.specs.declared.report.LoweringReport.{LoweringReport}
+use Rattle.hir_rules.specs.Broken.{IsBroken}
+use Rattle.bridge_lowering.specs.Answers.{AnswersReport, AreAcceptedWith, AreBorrowed, AreRefusedWith}
+use Rattle.bridge_lowering.specs.Broken.{Break, BreakNothing, BreaksRule, HoldsOf}
+use Rattle.bridge_lowering.specs.inside.Borrowing.{BorrowsIn, IsReportIn}
+use Rattle.bridge_lowering.proofs.LeafLemmas.{breaks_told, told_breaks}
+
+-- modules have one catalog
+abbrev pub OneCatalog : Type 0
+OneCatalog = (modules : List Module) (one other : Catalog) → IsCatalog modules one → IsCatalog modules other → one ≡ other
+
+-- the callables of a context are those that are declared
+abbrev pub ReadAlike : Type 0
+ReadAlike = (it : Interface) (defs : Definitions) → IsCatalog it.modules it.catalog → StandForItems it defs → callables defs ≡ declared_callables it
+
+first_stands : {A : Type 0} (xs : List A) → xs ≢ [] → (x : A) × Contains xs x
+first_stands [] some = absurd (some refl)
+first_stands (x ∷ xs) some = (x, (0, omega (arith), refl))
+
+none_stands : {A : Type 0} (xs : List A) (x : A) → xs ≡ [] → ¬ (Contains xs x)
+none_stands xs x e h = let k : Contains [] x = subst (λ ys. Contains ys x) e h in omega (arith, k.1)
+
+module _ (one_catalog : OneCatalog) (modules : List Module) (backend : Backend) (config : LoweringConfig) (catalog : Catalog)
+  (is : IsCatalog modules catalog) where
+  -- the declarations by this catalog
+  abbrev it : Interface
+  it = interface_of modules backend config (naming_of modules) catalog
+
+  abbrev Breaks : LoweringReport → Type 0
+  Breaks = Break modules backend config
+
+  -- what is broken is broken by this one
+  broken_here : (r : LoweringReport) → Breaks r → BreaksRule it r
+  broken_here r b =
+      subst (λ (c : Catalog). BreaksRule (interface_of modules backend config (naming_of modules) c) r)
+      (one_catalog modules b.catalog catalog b.is is) b.holds
+
+  breaks_here : (r : LoweringReport) → BreaksRule it r → Breaks r
+  breaks_here r b = record { catalog = catalog; is = is; holds = b }
+
+  -- nothing is
+  no_rule : ((r : LoweringReport) → ¬ (IsBroken it r)) → leaf_reports (declared_callables it) ≡ [] → BreakNothing modules backend config
+  no_rule unbroken few r b = elim (broken_here r b) [
+    | inl l ↦ unbroken r l
+    | inr m ↦ none_stands (leaf_reports (declared_callables it)) r few (breaks_told (declared_callables it) r m.1)
+  ]
+
+  -- what is told while declarations are lowered
+  refused_lowering : (told : List LoweringReport) → AreToldOf it told → AreRefusedWith modules backend config told
+  refused_lowering told t = record {
+    some = t.some;
+    broken = record {
+      each = λ r h. breaks_here r (inl (t.broken.each r h));
+      every = λ r b. elim (broken_here r b) [
+        | inl l ↦ t.broken.every r l
+        | inr m ↦ let first = first_stands told t.some in absurd (m.0 first.0 (t.broken.each first.0 first.1))
+      ];
+    };
+    ordered = record { catalog = catalog; is = is; holds = inl t.ordered };
+  }
+
+  -- what is told of leaves
+  refused_leaves : (told : List LoweringReport) → ((r : LoweringReport) → ¬ (IsBroken it r)) → told ≡ leaf_reports (declared_callables it) → told ≢ []
+      → AreRefusedWith modules backend config told
+  refused_leaves told unbroken e some = record {
+    some = some;
+    broken = record {
+      each = λ r h. breaks_here r (inr (unbroken, told_breaks (declared_callables it) r (subst (λ rs. Contains rs r) e h)));
+      every = λ r b. elim (broken_here r b) [
+        | inl l ↦ absurd (unbroken r l)
+        | inr m ↦ (r, (subst (λ rs. Contains rs r) (sym e) (breaks_told (declared_callables it) r m.1), refl))
+      ];
+    };
+    ordered = record { catalog = catalog; is = is; holds = inr e };
+  }
+
+  module _ (read_alike : ReadAlike) (defs : Definitions) (stood : AreStoodFor it defs) where
+    same : callables defs ≡ declared_callables it
+    same = read_alike it defs is stood.stand
+
+    pub answered_in : (result : Result BridgeReport LowerFault) → BorrowsIn defs result → AnswersReport modules backend config result
+    answered_in (Ok report) b = record {
+      unbroken = no_rule stood.unbroken (sym (ap leaf_reports same) ∙ b.few);
+      borrowed = record {
+        catalog = catalog;
+        is = is;
+        holds = record {
+          stand = subst (StandForItems it) (sym b.context) stood.stand;
+          same = ap callables b.context ∙ same;
+          reported = subst (λ cs. AreReported cs report.callables) same b.reported;
+        };
+      };
+    }
+    answered_in (Err (fault.Refused told)) b = refused_leaves told.items stood.unbroken (b.0 ∙ ap leaf_reports same) b.1
+    answered_in (Err fault.NoMemory) b = tt
+
+-- declarations in which a rule is broken while they are lowered
+pub refused_with : OneCatalog → (modules : List Module) (backend : Backend) (config : LoweringConfig) (f : LowerFault)
+    → AnswersDeclarations modules backend config (Err f) → AnswersReport modules backend config (Err f)
+refused_with one modules backend config (fault.Refused told) h = refused_lowering one modules backend config h.catalog h.is told.items h.holds
+refused_with one modules backend config fault.NoMemory h = tt
+
+-- and those that have a context
+pub answered_with : OneCatalog → ReadAlike → (modules : List Module) (backend : Backend) (config : LoweringConfig) (tcx : TypeContext)
+    → AnswersDeclarations modules backend config (Ok tcx) → (result : Result BridgeReport LowerFault) → BorrowsIn tcx.definitions result
+    → AnswersReport modules backend config result
+answered_with one alike modules backend config tcx h result b = answered_in one modules backend config h.catalog h.is alike tcx.definitions h.holds result b

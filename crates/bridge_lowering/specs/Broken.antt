@@ -1,0 +1,30 @@
+-- What is broken in declarations, in all phases: while they are lowered and in how their structs nest (`IsBroken` of `hir_rules`); and, where
+-- nothing is, in how many leaves their callables have.
+use Rattle.std.specs.Prelude.{◌⊎◌, List}
+use Rattle.bridge_callables.specs.Declared.{declared_callables}
+use Rattle.bridge_decl.specs.declared.modules.Module.{Module}
+use Rattle.bridge_report.specs.Limits.{LeavesBreak}
+use Rattle.hir_backends.specs.Backend.{Backend}
+use Rattle.hir_config.specs.declared.config.LoweringConfig.{LoweringConfig}
+use Rattle.hir_lower.specs.Acceptance.{HoldsByCatalog}
+use Rattle.hir_lowering.specs.Interface.{Interface}
+use Rattle.hir_naming.specs.Meaning.{naming_of}
+use Rattle.hir_reports.specs.declared.report.LoweringReport.{LoweringReport}
+use Rattle.hir_rules.specs.Broken.{IsBroken}
+
+-- a rule is broken there, with these arguments
+abbrev pub BreaksRule : Interface → LoweringReport → Type 0
+BreaksRule it report = IsBroken it report ⊎ (((r : LoweringReport) → ¬ (IsBroken it r)) × LeavesBreak (declared_callables it) report)
+
+-- something holds of declarations, for a backend and by what is allowed, where paths mean what they name, and each item is what the
+-- catalog of the modules says: they have one
+abbrev pub HoldsOf : List Module → Backend → LoweringConfig → (Interface → Type 0) → Type 0
+HoldsOf modules backend config P = HoldsByCatalog modules backend config (naming_of modules) P
+
+-- declarations break a rule there, with these arguments
+abbrev pub Break : List Module → Backend → LoweringConfig → LoweringReport → Type 0
+Break modules backend config report = HoldsOf modules backend config (λ it. BreaksRule it report)
+
+-- they break none
+abbrev pub BreakNothing : List Module → Backend → LoweringConfig → Type 0
+BreakNothing modules backend config = (report : LoweringReport) → ¬ (Break modules backend config report)
