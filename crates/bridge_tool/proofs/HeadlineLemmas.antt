@@ -2,26 +2,22 @@
 use Rattle.std.proofs.Common.{◌≡◌, ◌≢◌, ℕ, ◌≤◌, ◌<◌, ◌^◌, List, [], ◌∷◌, length, Option, Some, refl, sym, ap, subst, ◌∙◌, arith, inl, inr}
 use Rattle.std.specs.Prelude.{◌⊎◌, IfSome, String}
 use Rattle.std.specs.declared.alloc.Global.{Global}
-use Rattle.bridge_decl.specs.declared.modules.Module.{Module}
 use Rattle.bridge_read.specs.declared.input.Input.{Input}
 use Rattle.bridge_read.proofs.InputLaws.{spelled_once}
 use Rattle.bridge_outside.specs.Outside.{SourceState}
 use Rattle.bridge_tool.specs.declared.status.Status.{Status}
 use Rattle.bridge_tool.specs.declared.status.Status.TheVariants as status
-use Rattle.bridge_check.specs.Breaks.{BreakNothing}
-use Rattle.bridge_tool.specs.Built.{AreBuilt}
-use Rattle.bridge_tool.specs.Declining.{AreFaulty, IsDeclinedBy}
-use Rattle.bridge_tool.specs.Headline.{AnswersDeclarations, Headline, IsComplete, IsUndisturbed, Settles, SettlesCheck, SettlesLinks}
-use Rattle.bridge_check.specs.Refused.{AreRefusedBy}
+use Rattle.bridge_tool.specs.Checking.{BreaksNothing, HasPage, IsRefusedWith}
+use Rattle.bridge_tool.specs.Declining.{AreFaulty}
+use Rattle.bridge_tool.specs.Headline.{AnswersInput, Headline, IsComplete, IsUndisturbed, Settles, SettlesCheck, SettlesLinks}
 use Rattle.hir_reports.specs.declared.report.LoweringReport.{LoweringReport}
-use Rattle.bridge_check.specs.Page.{IsPage}
 use Rattle.bridge_read.specs.Inputs.{SpellsInput}
 use Rattle.bridge_tool.specs.Commands.{AskFor}
-use Rattle.bridge_tool.specs.Running.{World, Asked, IsAnswered, Says, Spells, WereRead}
+use Rattle.bridge_tool.specs.Running.{World, Asked, IsAnswered, Says, WereRead}
 use Rattle.bridge_tool.specs.declared.command.Command.{Command}
 use Rattle.bridge_tool.specs.declared.command.Command.TheVariants.{Check, Links}
 use Rattle.bridge_tool.specs.Statuses.{code_of}
-use Rattle.bridge_check.proofs.TestLemmas.{contains_first}
+use Rattle.std.specs.List.{Contains}
 
 -- what holds of what is told
 if_told : {A : Type 0} (P : A → Type 0) {left : Option A} {had : A} → IfSome left P → left ≡ Some had → P had
@@ -36,24 +32,17 @@ read_short : {old new : SourceState} {bytes had : List ℕ} → WereRead old new
 read_short {bytes = bytes} {had} read told = let e : length bytes ≡ length had = ap length (read_told read told) in let few = read.short in omega arith
 
 -- and what the bytes read spell, those of the source spell
-spells_told : {old new : SourceState} {bytes had : List ℕ} (modules : List Module) → WereRead old new bytes → old.left ≡ Some had → Spells bytes modules → Spells had modules
-spells_told modules read told spells = subst (λ (b : List ℕ). Spells b modules) (read_told read told) spells
+spells_told : {old new : SourceState} {bytes had : List ℕ} (input : Input) → WereRead old new bytes → old.left ≡ Some had → SpellsInput bytes input
+    → SpellsInput had input
+spells_told input read told spells = subst (λ (b : List ℕ). SpellsInput b input) (read_told read told) spells
 
--- bytes spell one list of modules
-spelled_one : (bytes : List ℕ) (modules others : List Module) → Spells bytes modules → Spells bytes others → modules ≡ others
-spelled_one bytes modules others one other =
-    one.is ∙ ap (λ (i : Input). i.env) (spelled_once bytes one.input other.input one.spelled other.spelled) ∙ sym other.is
+contains_first : {A : Type 0} (x : A) (xs : List A) → Contains (x ∷ xs) x
+contains_first x xs = (0, omega (arith), refl)
 
 -- what is refused breaks a rule
-refused_breaks : (modules : List Module) (reports : List LoweringReport) → AreRefusedBy modules reports → ¬ (BreakNothing modules)
-refused_breaks modules [] refused = absurd (let few = refused.some in omega arith)
-refused_breaks modules (report ∷ reports) refused = λ keep. keep report.error.rule report.context report.error.args (refused.each report (contains_first report reports))
-
--- bytes that are declined spell no declarations
-declined_spells_nothing : (bytes line : List ℕ) → IsDeclinedBy bytes line → (modules : List Module) → ¬ (Spells bytes modules)
-declined_spells_nothing bytes line (inl faulty) modules = λ spells. faulty.fault.nothing spells.input spells.spelled
-declined_spells_nothing bytes line (inr unbuilt) modules = λ spells.
-    unbuilt.unbuilt (subst AreBuilt (spells.is ∙ ap (λ (i : Input). i.env) (spelled_once bytes spells.input unbuilt.input spells.spelled unbuilt.spelled)) spells.built)
+refused_breaks : (input : Input) (reports : List LoweringReport) → IsRefusedWith input reports → ¬ (BreaksNothing input)
+refused_breaks input [] refused = absurd (refused.some refl)
+refused_breaks input (report ∷ reports) refused = λ keep. keep report (refused.broken.each report (contains_first report reports))
 
 -- words ask for one command
 same_command : (words : List (String Global)) (one other : Command) → AskFor words one → AskFor words other → one ≡ other
@@ -66,63 +55,63 @@ answered_as words old new asked end r asks =
     subst (λ (command : Command). IsAnswered command old new end) (same_command words r.0 asked r.1 asks) r.2
 
 -- the headline, for each status but that of want of memory
-answers_end : (words : List (String Global)) (old new : World) (had : List ℕ) (modules : List Module) (end : Status) → Says words old new end
-    → IsUndisturbed words Check old new had → length had ≤ 2 ^ 26 → Spells had modules → code_of end ≢ 5 → AnswersDeclarations modules old new (code_of end)
-answers_end words old new had modules status.Accepted r told short spells memory =
+answers_end : (words : List (String Global)) (old new : World) (had : List ℕ) (input : Input) (end : Status) → Says words old new end
+    → IsUndisturbed words Check old new had → length had ≤ 2 ^ 26 → SpellsInput had input → code_of end ≢ 5 → AnswersInput input old new (code_of end)
+answers_end words old new had input status.Accepted r told short spells memory =
     let answered = answered_as words old new Check status.Accepted r told.command in
     let read = answered.1 in let text = answered.2.0 in let answer = answered.2.1 in
-    let same : answer.0 ≡ modules = spelled_one had answer.0 modules (spells_told answer.0 read told.told answer.1) spells in
-    let keeps : BreakNothing modules = subst BreakNothing same answer.2 in
+    let same : answer.0 ≡ input = spelled_once had answer.0 input (spells_told answer.0 read told.told answer.1) spells in
+    let keeps : BreaksNothing input = subst BreaksNothing same answer.2 in
     record {
       accepts = (λ e. keeps, λ k. refl);
-      page = λ e. (text, subst (λ m. IsPage m text) same answer.3, answered.2.2.taken);
+      page = λ e. (text, subst (λ i. HasPage i text) same answer.3, answered.2.2.taken);
       refuses = λ n. absurd (n refl);
       reports = λ e. absurd (omega arith);
       none_left = if_told (λ all. new.source.left ≡ Some []) read.none_left told.told;
     }
-answers_end words old new had modules status.Refused r told short spells memory =
+answers_end words old new had input status.Refused r told short spells memory =
     let answered = answered_as words old new Check status.Refused r told.command in
     let read = answered.1 in let text = answered.2.0 in let answer = answered.2.1 in
-    let same : answer.0 ≡ modules = spelled_one had answer.0 modules (spells_told answer.0 read told.told answer.2) spells in
-    let refused : AreRefusedBy modules answer.1 = subst (λ m. AreRefusedBy m answer.1) same answer.3 in
+    let same : answer.0 ≡ input = spelled_once had answer.0 input (spells_told answer.0 read told.told answer.2) spells in
+    let refused : IsRefusedWith input answer.1 = subst (λ i. IsRefusedWith i answer.1) same answer.3 in
     record {
-      accepts = (λ e. absurd (omega arith), λ keep. absurd (refused_breaks modules answer.1 refused keep));
+      accepts = (λ e. absurd (omega arith), λ keep. absurd (refused_breaks input answer.1 refused keep));
       page = λ e. absurd (omega arith);
       refuses = λ n. refl;
       reports = λ e. (answer.1, refused, rw (sym answer.4) answered.2.2.taken);
       none_left = if_told (λ all. new.source.left ≡ Some []) read.none_left told.told;
     }
-answers_end words old new had modules status.NotDeclarations r told short spells memory =
+answers_end words old new had input status.NotDeclarations r told short spells memory =
     let answered = answered_as words old new Check status.NotDeclarations r told.command in
-    absurd (declined_spells_nothing had answered.2.0 (subst (λ b. IsDeclinedBy b answered.2.0) (read_told answered.1 told.told) answered.2.1) modules spells)
-answers_end words old new had modules status.ReadFailed r told short spells memory = absurd (told.no_read_failed r.1)
-answers_end words old new had modules status.WriteFailed r told short spells memory = absurd (told.no_write_failed r.2.0)
-answers_end words old new had modules status.NoMemory r told short spells memory = absurd (memory refl)
-answers_end words old new had modules status.BadWords r told short spells memory = absurd (r.0 (Check, told.command))
-answers_end words old new had modules status.TooLong r told short spells memory = absurd (let long = if_told (λ all. 2 ^ 26 < length all) r.1.long told.told in omega arith)
+    absurd ((subst (λ b. AreFaulty b answered.2.0) (read_told answered.1 told.told) answered.2.1).fault.nothing input spells)
+answers_end words old new had input status.ReadFailed r told short spells memory = absurd (told.no_read_failed r.1)
+answers_end words old new had input status.WriteFailed r told short spells memory = absurd (told.no_write_failed r.2.0)
+answers_end words old new had input status.NoMemory r told short spells memory = absurd (memory refl)
+answers_end words old new had input status.BadWords r told short spells memory = absurd (r.0 (Check, told.command))
+answers_end words old new had input status.TooLong r told short spells memory = absurd (let long = if_told (λ all. 2 ^ 26 < length all) r.1.long told.told in omega arith)
 
 pub headline_of : (words : List (String Global)) (old new : World) (end : Status) → Says words old new end → Headline words old new (code_of end)
-headline_of words old new end says = λ had modules told short spells memory. answers_end words old new had modules end says told short spells memory
+headline_of words old new end says = λ had input told short spells memory. answers_end words old new had input end says told short spells memory
 
--- bytes that spell declarations settle the status by whether these break a rule
-keeping_settles : (had : List ℕ) (modules : List Module) → length had ≤ 2 ^ 26 → Spells had modules → BreakNothing modules → SettlesCheck had 0
-keeping_settles had modules short spells keeps = record {
-  accepted = (λ e. (short, (modules, spells, keeps)), λ row. refl);
-  refused = (λ e. absurd (omega arith), λ row. absurd (row.1.2 (subst BreakNothing (spelled_one had modules row.1.0 spells row.1.1) keeps)));
-  declined = (λ e. absurd (omega arith), λ row. absurd (row.1 modules spells));
+-- bytes that spell an input settle the status by whether these break a rule
+keeping_settles : (had : List ℕ) (input : Input) → length had ≤ 2 ^ 26 → SpellsInput had input → BreaksNothing input → SettlesCheck had 0
+keeping_settles had input short spells keeps = record {
+  accepted = (λ e. (short, (input, spells, keeps)), λ row. refl);
+  refused = (λ e. absurd (omega arith), λ row. absurd (row.1.2 (subst BreaksNothing (spelled_once had input row.1.0 spells row.1.1) keeps)));
+  declined = (λ e. absurd (omega arith), λ row. absurd (row.1 input spells));
   too_long = (λ e. absurd (omega arith), λ long. absurd (omega arith));
 }
 
-breaking_settles : (had : List ℕ) (modules : List Module) → length had ≤ 2 ^ 26 → Spells had modules → ¬ (BreakNothing modules) → SettlesCheck had 1
-breaking_settles had modules short spells breaks = record {
-  accepted = (λ e. absurd (omega arith), λ row. absurd (breaks (subst BreakNothing (spelled_one had row.1.0 modules row.1.1 spells) row.1.2)));
-  refused = (λ e. (short, (modules, spells, breaks)), λ row. refl);
-  declined = (λ e. absurd (omega arith), λ row. absurd (row.1 modules spells));
+breaking_settles : (had : List ℕ) (input : Input) → length had ≤ 2 ^ 26 → SpellsInput had input → ¬ (BreaksNothing input) → SettlesCheck had 1
+breaking_settles had input short spells breaks = record {
+  accepted = (λ e. absurd (omega arith), λ row. absurd (breaks (subst BreaksNothing (spelled_once had row.1.0 input row.1.1 spells) row.1.2)));
+  refused = (λ e. (short, (input, spells, breaks)), λ row. refl);
+  declined = (λ e. absurd (omega arith), λ row. absurd (row.1 input spells));
   too_long = (λ e. absurd (omega arith), λ long. absurd (omega arith));
 }
 
 -- bytes that spell none, or are too long, settle it too
-spelling_none_settles : (had : List ℕ) → length had ≤ 2 ^ 26 → ((modules : List Module) → ¬ (Spells had modules)) → SettlesCheck had 2
+spelling_none_settles : (had : List ℕ) → length had ≤ 2 ^ 26 → ((input : Input) → ¬ (SpellsInput had input)) → SettlesCheck had 2
 spelling_none_settles had short none = record {
   accepted = (λ e. absurd (omega arith), λ row. absurd (none row.1.0 row.1.1));
   refused = (λ e. absurd (omega arith), λ row. absurd (none row.1.0 row.1.1));
@@ -149,7 +138,7 @@ settles_check words old new had status.Refused r told =
 settles_check words old new had status.NotDeclarations r told =
     let answered = answered_as words old new Check status.NotDeclarations r told.command in
     inr (spelling_none_settles had (read_short answered.1 told.told)
-    (declined_spells_nothing had answered.2.0 (subst (λ b. IsDeclinedBy b answered.2.0) (read_told answered.1 told.told) answered.2.1)))
+    (subst (λ b. AreFaulty b answered.2.0) (read_told answered.1 told.told) answered.2.1).fault.nothing)
 settles_check words old new had status.ReadFailed r told = absurd (told.no_read_failed r.1)
 settles_check words old new had status.WriteFailed r told = absurd (told.no_write_failed r.2.0)
 settles_check words old new had status.NoMemory r told = inl refl

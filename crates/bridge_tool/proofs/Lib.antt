@@ -1,5 +1,5 @@
-pub mod BuiltLemmas
+pub mod DeclaredLemmas
 pub mod DocsLemmas
 pub mod HeadlineLemmas
-pub mod JudgeLemmas
+pub mod LineLemmas
 pub mod RunLemmas

@@ -2,7 +2,8 @@
 use Rattle.std.proofs.Common.{◌≡◌, ◌≢◌, ℕ, ◌<◌, ◌≤◌, ◌^◌, Bool, List, [], ◌∷◌, length, map, get_or, Result, Ok, Err, refl, subst, sym, ap, ◌∙◌, arith, inl, inr}
 use Rattle.std.specs.Prelude.{◌↔◌, ◌⊎◌, IfSome, IsTrue, String, codes, string_bytes}
 use Rattle.std.specs.declared.alloc.Global.{Global}
-use Rattle.bridge_decl.specs.declared.modules.Module.{Module}
+use Rattle.bridge_read.specs.Inputs.{SpellsInput}
+use Rattle.bridge_read.specs.declared.input.Input.{Input}
 use Rattle.bridge_outside.specs.declared.sink.SinkFault.{SinkFault}
 use Rattle.bridge_outside.specs.declared.sink.SinkFault.TheVariants.{Failed, NoMemory}
 use Rattle.bridge_outside.specs.Outside.{SinkState, SourceState, taken_with}
@@ -11,8 +12,10 @@ use Rattle.bridge_tool.specs.declared.status.Status.{Status}
 use Rattle.bridge_tool.specs.declared.status.Status.TheVariants as status
 use Rattle.bridge_tool.specs.Following.{Follows}
 use Rattle.bridge_tool.specs.Commands.{AskFor}
-use Rattle.bridge_tool.specs.Running.{World, Answers, AnswersCheck, FirstPart, Ran, Says, Spells, WereRead}
+use Rattle.bridge_tool.specs.Running.{World, Answers, AnswersCheck, FirstPart, Ran, Says, WereRead}
 use Rattle.bridge_tool.specs.declared.command.Command.{Command}
+use Rattle.bridge_tool.specs.declared.command.Command.TheVariants as ask
+use Rattle.bridge_tool.specs.Declining.{AreFaulty}
 use Rattle.bridge_tool.specs.Statuses.{code_of}
 use Rattle.bridge_tool.specs.inside.Answering.{IsWhole, Printed, TellsOf, ended_with}
 
@@ -28,39 +31,44 @@ printed_text P {old = old} verdict text (Ok done) whole d of = whole (text, of, 
 printed_text P verdict text (Err Failed) whole d of = (d.failed refl, first_part P verdict text (Err Failed) d of)
 printed_text P verdict text (Err NoMemory) whole d of = inr (first_part P verdict text (Err NoMemory) d of)
 
--- what tells of the declarations that bytes spell answers the bytes
-tells_answers : (bytes : List ℕ) (modules : List Module) → Spells bytes modules → (end : Status) (text : List ℕ) → TellsOf modules end text → AnswersCheck bytes end text
-tells_answers bytes modules spells status.Accepted text t = (modules, spells, t.0, t.1)
-tells_answers bytes modules spells status.Refused text t = (modules, t.0, spells, t.1, t.2)
-tells_answers bytes modules spells status.NotDeclarations text t = absurd t
-tells_answers bytes modules spells status.ReadFailed text t = absurd t
-tells_answers bytes modules spells status.WriteFailed text t = absurd t
-tells_answers bytes modules spells status.NoMemory text t = absurd t
-tells_answers bytes modules spells status.BadWords text t = absurd t
-tells_answers bytes modules spells status.TooLong text t = absurd t
+-- what tells of the declarations of the input that bytes spell answers the bytes
+tells_answers : (bytes : List ℕ) (input : Input) → SpellsInput bytes input → (end : Status) (text : List ℕ) → TellsOf input end text → AnswersCheck bytes end text
+tells_answers bytes input spells status.Accepted text t = (input, spells, t.0, t.1)
+tells_answers bytes input spells status.Refused text t = (input, t.0, spells, t.1, t.2)
+tells_answers bytes input spells status.NotDeclarations text t = absurd t
+tells_answers bytes input spells status.ReadFailed text t = absurd t
+tells_answers bytes input spells status.WriteFailed text t = absurd t
+tells_answers bytes input spells status.NoMemory text t = absurd t
+tells_answers bytes input spells status.BadWords text t = absurd t
+tells_answers bytes input spells status.TooLong text t = absurd t
 
-part_answers : (bytes : List ℕ) (modules : List Module) (old new : SinkState) → Spells bytes modules → FirstPart (TellsOf modules) old new → FirstPart (AnswersCheck bytes) old new
-part_answers bytes modules old new spells part = record {
+part_answers : (bytes : List ℕ) (input : Input) (old new : SinkState) → SpellsInput bytes input → FirstPart (TellsOf input) old new → FirstPart (AnswersCheck bytes) old new
+part_answers bytes input old new spells part = record {
   status = part.status;
   text = part.text;
-  of = tells_answers bytes modules spells part.status part.text part.of;
+  of = tells_answers bytes input spells part.status part.text part.of;
   sent = part.sent;
   rest = part.rest;
   parts = part.parts;
   took = part.took;
 }
 
-pub printed_answers : (bytes : List ℕ) (modules : List Module) (old new : SinkState) (end : Status) → Spells bytes modules
-    → Printed (TellsOf modules) old new end → Printed (AnswersCheck bytes) old new end
-printed_answers bytes modules old new status.Accepted spells p = (p.0, tells_answers bytes modules spells status.Accepted p.0 p.1, p.2)
-printed_answers bytes modules old new status.Refused spells p = (p.0, tells_answers bytes modules spells status.Refused p.0 p.1, p.2)
-printed_answers bytes modules old new status.NotDeclarations spells p = absurd p.1
-printed_answers bytes modules old new status.ReadFailed spells p = absurd p
-printed_answers bytes modules old new status.WriteFailed spells p = (p.0, part_answers bytes modules old new spells p.1)
-printed_answers bytes modules old new status.NoMemory spells (inl same) = inl same
-printed_answers bytes modules old new status.NoMemory spells (inr part) = inr (part_answers bytes modules old new spells part)
-printed_answers bytes modules old new status.BadWords spells p = absurd p
-printed_answers bytes modules old new status.TooLong spells p = absurd p
+pub printed_answers : (bytes : List ℕ) (input : Input) (old new : SinkState) (end : Status) → SpellsInput bytes input
+    → Printed (TellsOf input) old new end → Printed (AnswersCheck bytes) old new end
+printed_answers bytes input old new status.Accepted spells p = (p.0, tells_answers bytes input spells status.Accepted p.0 p.1, p.2)
+printed_answers bytes input old new status.Refused spells p = (p.0, tells_answers bytes input spells status.Refused p.0 p.1, p.2)
+printed_answers bytes input old new status.NotDeclarations spells p = absurd p.1
+printed_answers bytes input old new status.ReadFailed spells p = absurd p
+printed_answers bytes input old new status.WriteFailed spells p = (p.0, part_answers bytes input old new spells p.1)
+printed_answers bytes input old new status.NoMemory spells (inl same) = inl same
+printed_answers bytes input old new status.NoMemory spells (inr part) = inr (part_answers bytes input old new spells part)
+printed_answers bytes input old new status.BadWords spells p = absurd p
+printed_answers bytes input old new status.TooLong spells p = absurd p
+
+-- the line that declines bytes answers each command
+pub faulty_answers : (asked : Command) (bytes line : List ℕ) → AreFaulty bytes line → Answers asked bytes status.NotDeclarations line
+faulty_answers ask.Check bytes line faulty = faulty
+faulty_answers ask.Links bytes line faulty = faulty
 
 -- what was read was answered
 pub says_answered : (words : List (String Global)) (command : Command) (old new : World) (bytes : List ℕ) → AskFor words command

@@ -1,16 +1,13 @@
 -- The headline: what a run that nothing disturbs answers to declarations. And completeness: what settles its status.
 use Rattle.std.specs.Prelude.{◌≡◌, ◌≢◌, ◌≤◌, ◌<◌, ◌^◌, ◌⊎◌, ◌↔◌, ℕ, List, [], Some, String, length}
 use Rattle.std.specs.declared.alloc.Global.{Global}
-use Rattle.bridge_decl.specs.declared.modules.Module.{Module}
 use Rattle.bridge_outside.specs.Outside.{Rose, taken_with}
-use Rattle.bridge_check.specs.Breaks.{BreakNothing}
-use Rattle.bridge_check.specs.Refused.{AreRefusedBy, lines}
 use Rattle.hir_reports.specs.declared.report.LoweringReport.{LoweringReport}
-use Rattle.bridge_check.specs.Page.{IsPage}
 use Rattle.bridge_read.specs.declared.input.Input.{Input}
 use Rattle.bridge_read.specs.Inputs.{SpellsInput}
 use Rattle.bridge_tool.specs.Commands.{AskFor}
-use Rattle.bridge_tool.specs.Running.{World, Spells}
+use Rattle.bridge_tool.specs.Checking.{BreaksNothing, HasPage, IsRefusedWith, lines}
+use Rattle.bridge_tool.specs.Running.{World}
 use Rattle.bridge_tool.specs.declared.command.Command.{Command}
 use Rattle.bridge_tool.specs.declared.command.Command.TheVariants.{Check, Links}
 
@@ -21,30 +18,30 @@ pub record IsUndisturbed (words : List (String Global)) (asked : Command) (old n
   pub no_read_failed : ¬ (Rose old.source.faults new.source.faults)
   pub no_write_failed : ¬ (Rose old.sink.faults new.sink.faults)
 
--- What the program does with the declarations that its source spells.
-pub record AnswersDeclarations (modules : List Module) (old new : World) (code : ℕ) : Type 0 where
+-- What the program does with the input that its source spells.
+pub record AnswersInput (input : Input) (old new : World) (code : ℕ) : Type 0 where
   -- it ends with 0 exactly where no declaration breaks a rule
-  pub accepts : (code ≡ 0) ↔ BreakNothing modules
+  pub accepts : (code ≡ 0) ↔ BreaksNothing input
   -- and prints their page, nothing before and nothing after
-  pub page : code ≡ 0 → (text : List ℕ) × IsPage modules text × (new.sink.taken ≡ taken_with old.sink.taken text)
+  pub page : code ≡ 0 → (text : List ℕ) × HasPage input text × (new.sink.taken ≡ taken_with old.sink.taken text)
   -- otherwise it ends with 1
   pub refuses : code ≢ 0 → code ≡ 1
   -- and prints the lines of reports, each of a broken rule and its declaration, with one at each broken place
-  pub reports : code ≡ 1 → (reports : List LoweringReport) × AreRefusedBy modules reports × (new.sink.taken ≡ taken_with old.sink.taken (lines reports))
+  pub reports : code ≡ 1 → (reports : List LoweringReport) × IsRefusedWith input reports × (new.sink.taken ≡ taken_with old.sink.taken (lines reports))
   -- the source has no bytes left
   pub none_left : new.source.left ≡ Some []
 
--- THE HEADLINE: so it does for `check`, where nothing disturbs it, the source's bytes are at most 2^26 and spell declarations,
+-- THE HEADLINE: so it does for `check`, where nothing disturbs it, the source's bytes are at most 2^26 and spell an input,
 -- and memory suffices.
 abbrev pub Headline : List (String Global) → World → World → ℕ → Type 0
-Headline words old new code = (had : List ℕ) (modules : List Module) → IsUndisturbed words Check old new had → length had ≤ 2 ^ 26 → Spells had modules
-    → code ≢ 5 → AnswersDeclarations modules old new code
+Headline words old new code = (had : List ℕ) (input : Input) → IsUndisturbed words Check old new had → length had ≤ 2 ^ 26 → SpellsInput had input
+    → code ≢ 5 → AnswersInput input old new code
 
 -- What the bytes of the source say of the status of `check`: each of 0, 1, 2 and 7 comes exactly where its row is so.
 pub record SettlesCheck (had : List ℕ) (code : ℕ) : Type 0 where
-  pub accepted : (code ≡ 0) ↔ ((length had ≤ 2 ^ 26) × ((modules : List Module) × Spells had modules × BreakNothing modules))
-  pub refused : (code ≡ 1) ↔ ((length had ≤ 2 ^ 26) × ((modules : List Module) × Spells had modules × (¬ (BreakNothing modules))))
-  pub declined : (code ≡ 2) ↔ ((length had ≤ 2 ^ 26) × ((modules : List Module) → ¬ (Spells had modules)))
+  pub accepted : (code ≡ 0) ↔ ((length had ≤ 2 ^ 26) × ((input : Input) × SpellsInput had input × BreaksNothing input))
+  pub refused : (code ≡ 1) ↔ ((length had ≤ 2 ^ 26) × ((input : Input) × SpellsInput had input × (¬ (BreaksNothing input))))
+  pub declined : (code ≡ 2) ↔ ((length had ≤ 2 ^ 26) × ((input : Input) → ¬ (SpellsInput had input)))
   pub too_long : (code ≡ 7) ↔ (2 ^ 26 < length had)
 
 -- What they say of that of `links`, which tests no rule.

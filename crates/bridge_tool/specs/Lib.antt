@@ -1,4 +1,4 @@
-pub mod Built
+pub mod Checking
 pub mod Commands
 pub mod Declining
 pub mod DocsPage

@@ -1,22 +1,18 @@
 -- What a run of the program does to the outside, by the status that it ends with.
 use Rattle.std.specs.Prelude.{◌≡◌, ◌≤◌, ◌<◌, ◌^◌, ◌⊎◌, ◌++◌, ℕ, List, [], length, Some, IfSome, String}
 use Rattle.std.specs.declared.alloc.Global.{Global}
-use Rattle.bridge_decl.specs.declared.modules.Module.{Module}
 use Rattle.bridge_read.specs.declared.input.Input.{Input}
 use Rattle.bridge_read.specs.Inputs.{SpellsInput}
 use Rattle.bridge_outside.specs.Outside.{Rose, SinkState, SourceState, taken_with}
 use Rattle.bridge_tool.specs.declared.status.Status.{Status}
 use Rattle.bridge_tool.specs.declared.status.Status.TheVariants as status
-use Rattle.bridge_check.specs.Breaks.{BreakNothing}
-use Rattle.bridge_tool.specs.Built.{AreBuilt}
 use Rattle.bridge_tool.specs.Commands.{AreCommand, AskFor}
-use Rattle.bridge_tool.specs.Declining.{AreFaulty, IsDeclinedBy}
+use Rattle.bridge_tool.specs.Checking.{BreaksNothing, HasPage, IsRefusedWith, lines}
+use Rattle.bridge_tool.specs.Declining.{AreFaulty}
 use Rattle.bridge_tool.specs.DocsPage.{docs_page}
 use Rattle.bridge_tool.specs.declared.command.Command.{Command}
 use Rattle.bridge_tool.specs.declared.command.Command.TheVariants.{Check, Links}
-use Rattle.bridge_check.specs.Refused.{AreRefusedBy, lines}
 use Rattle.hir_reports.specs.declared.report.LoweringReport.{LoweringReport}
-use Rattle.bridge_check.specs.Page.{IsPage}
 use Rattle.bridge_tool.specs.Statuses.{code_of}
 
 -- The outside of a run: what its source and its sink show.
@@ -27,20 +23,13 @@ pub record World : Type 0 where
 abbrev pub world : SourceState → SinkState → World
 world source sink = record { source = source; sink = sink }
 
--- The bytes spell an input with these declarations, all of which are built.
-pub record Spells (bytes : List ℕ) (modules : List Module) : Type 0 where
-  pub input : Input
-  pub spelled : SpellsInput bytes input
-  pub is : modules ≡ input.env
-  pub built : AreBuilt modules
-
--- The text that answers `check` with a status: 0, the page of the declarations that the bytes spell, which break no rule; 1, the lines of
--- the reports on them, which break one; 2, the line that declines bytes that spell none.
+-- The text that answers `check` with a status: 0, the page of the declarations of the input that the bytes spell, which break no rule; 1, the
+-- lines of the reports on them, which break one; 2, the line that declines bytes that spell none.
 abbrev pub AnswersCheck : List ℕ → Status → List ℕ → Type 0
-AnswersCheck bytes status.Accepted text = (modules : List Module) × Spells bytes modules × BreakNothing modules × IsPage modules text
+AnswersCheck bytes status.Accepted text = (input : Input) × SpellsInput bytes input × BreaksNothing input × HasPage input text
 AnswersCheck bytes status.Refused text =
-    (modules : List Module) × (reports : List LoweringReport) × Spells bytes modules × AreRefusedBy modules reports × (text ≡ lines reports)
-AnswersCheck bytes status.NotDeclarations text = IsDeclinedBy bytes text
+    (input : Input) × (reports : List LoweringReport) × SpellsInput bytes input × IsRefusedWith input reports × (text ≡ lines reports)
+AnswersCheck bytes status.NotDeclarations text = AreFaulty bytes text
 AnswersCheck bytes status.ReadFailed text = ⊥
 AnswersCheck bytes status.WriteFailed text = ⊥
 AnswersCheck bytes status.NoMemory text = ⊥

@@ -18,17 +18,17 @@
 //! ok 1
 //! ```
 //!
-//! `run` goes from bytes to text in four steps:
+//! `run` goes from bytes to text in three steps:
 //!
-//! 1. **The verdict** (`judge`): the bytes spell declarations, or they have a first fault, or they spell a form that isn't built yet. In
-//!    the last two cases one line is printed (`decline`), and the status is 2.
-//! 2. **The rules** (`bridge_check::reports_of`): every name, path and lifetime is tested. Were `y` a `&'b Q`, the path `Q` would break the rule
-//!    `UnresolvedPath` at the place `O::pick`. All broken rules are told, each in a report (`lines`): status 1.
-//! 3. **The borrowings** (`bridge_check::borrowings_of`): where no rule is broken, the inputs of each method are its leaves, `this` and `y`, each
-//!    with the lifetime that it carries. Under each lifetime that the return names, `'a`, those are listed that carry it or one that outlives it.
-//! 4. **The page** (`bridge_check::print_page`) is printed: status 0. It stands before its first byte is written.
+//! 1. **The input** (`read_input`): the bytes spell declarations, a backend and a configuration, or they have a first fault. Then one line is
+//!    printed (`decline`), and the status is 2.
+//! 2. **The report** (`bridge_lowering::lower_and_borrow`): all declarations are lowered for the backend, and every rule is tested on the way. Were
+//!    `y` a `&'b Q`, the path `Q` would break the rule `UnresolvedPath` at the place `O::pick`. What is broken is told, with a report at each
+//!    broken place at least (`lines`): status 1. Where nothing is, the inputs of each method and function are its leaves, `this` and `y`, each
+//!    with the lifetimes that it carries. Under each lifetime that the return names, `'a`, those are listed that carry it or one that outlives it.
+//! 3. **The page** (`bridge_page::print_page`) is printed: status 0. The report stands before its first byte is written.
 //!
-//! Asked for `links` (`command`), it prints a line for each link of the declarations to documentation in place of steps 2 to 4, and tests no rule
+//! Asked for `links` (`command`), it prints a line for each link of the declarations to documentation in place of steps 2 and 3, and tests no rule
 //! (`docs`).
 //!
 //! What a run promises is the contract of `run`, in six clauses: the headline (0 exactly where no rule is broken, with exactly the
@@ -37,20 +37,22 @@
 //! `what_statuses_say` states what follows from the third, status by status.
 #![tactic(auto)]
 
-mod built;
 mod command;
 mod decline;
 mod docs;
-mod judge;
 mod lines;
 mod program;
 mod status;
 mod text;
-mod verdict;
 
+pub use bridge_lowering::lower_and_borrow;
 pub use bridge_outside::{
     Failed, MemSink, MemSource, PlainSink, PlainSource, Sink, SinkFault, Source, StdSink, StdSource,
 };
 pub use bridge_read::{Input, InputFault, InputKind, read_input};
+pub use bridge_report::{
+    BridgeReport, CallableId, CallableReport, InputPlace, LeafPath, ReportEdge, ReportEdgeKind,
+    ReturnedLifetime,
+};
 pub use program::{run, what_statuses_say};
 pub use status::Status;

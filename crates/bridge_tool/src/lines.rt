@@ -3,7 +3,7 @@
 ghost use Rattle.std.specs.Prelude.{◌≡◌, ◌++◌, IfOk, OnOk, string_bytes};
 ghost use Rattle.std.specs.List.{flat_map};
 ghost use Rattle.hir_reports.specs.Texts.{report_text};
-ghost use Rattle.bridge_check.specs.Refused.{lines};
+ghost use Rattle.bridge_tool.specs.Checking.{lines};
 
 use bridge_ast::NoMemory;
 use hir_reports::LoweringReport;

@@ -1,5 +1,6 @@
 //! Tests, one module a subject.
 
+mod declarations;
 mod examples;
 mod inputs;
 mod links;

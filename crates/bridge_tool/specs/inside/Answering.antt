@@ -1,15 +1,13 @@
 -- What the printing of an answer did to the sink, on the way to the status of a run.
 use Rattle.std.specs.Prelude.{◌≡◌, ◌⊎◌, ℕ, List, Result, Ok, Err}
-use Rattle.bridge_decl.specs.declared.modules.Module.{Module}
+use Rattle.bridge_read.specs.declared.input.Input.{Input}
 use Rattle.bridge_outside.specs.Outside.{Rose, SinkState}
 use Rattle.bridge_outside.specs.declared.sink.SinkFault.{SinkFault}
 use Rattle.bridge_outside.specs.declared.sink.SinkFault.TheVariants.{Failed, NoMemory}
 use Rattle.bridge_tool.specs.declared.status.Status.{Status}
 use Rattle.bridge_tool.specs.declared.status.Status.TheVariants as status
-use Rattle.bridge_check.specs.Breaks.{BreakNothing}
-use Rattle.bridge_check.specs.Refused.{AreRefusedBy, lines}
+use Rattle.bridge_tool.specs.Checking.{BreaksNothing, HasPage, IsRefusedWith, lines}
 use Rattle.hir_reports.specs.declared.report.LoweringReport.{LoweringReport}
-use Rattle.bridge_check.specs.Page.{IsPage}
 use Rattle.bridge_tool.specs.Running.{FirstPart, WasTaken}
 
 -- the status once a verdict was printed
@@ -19,15 +17,15 @@ ended_with verdict (Err Failed) = status.WriteFailed
 ended_with verdict (Err NoMemory) = status.NoMemory
 
 -- the text that tells of declarations, by the status
-abbrev pub TellsOf : List Module → Status → List ℕ → Type 0
-TellsOf modules status.Accepted text = BreakNothing modules × IsPage modules text
-TellsOf modules status.Refused text = (reports : List LoweringReport) × AreRefusedBy modules reports × (text ≡ lines reports)
-TellsOf modules status.NotDeclarations text = ⊥
-TellsOf modules status.ReadFailed text = ⊥
-TellsOf modules status.WriteFailed text = ⊥
-TellsOf modules status.NoMemory text = ⊥
-TellsOf modules status.BadWords text = ⊥
-TellsOf modules status.TooLong text = ⊥
+abbrev pub TellsOf : Input → Status → List ℕ → Type 0
+TellsOf input status.Accepted text = BreaksNothing input × HasPage input text
+TellsOf input status.Refused text = (reports : List LoweringReport) × IsRefusedWith input reports × (text ≡ lines reports)
+TellsOf input status.NotDeclarations text = ⊥
+TellsOf input status.ReadFailed text = ⊥
+TellsOf input status.WriteFailed text = ⊥
+TellsOf input status.NoMemory text = ⊥
+TellsOf input status.BadWords text = ⊥
+TellsOf input status.TooLong text = ⊥
 
 -- the sink took exactly a text of which P holds with this status
 abbrev pub IsWhole : (Status → List ℕ → Type 0) → SinkState → SinkState → Status → Type 0

@@ -1,7 +1,7 @@
 use Rattle.std.proofs.Common.{◌≡◌, ◌++◌, ◌∙◌, ap, append_assoc, take, string_bytes}
 use Rattle.std.specs.List.{flat_map}
 use Rattle.hir_reports.specs.Texts.{report_text}
-use Rattle.bridge_check.proofs.ChosenLemmas.{flat_map_one_more}
+use Rattle.bridge_tool.proofs.LineLemmas.{flat_map_one_more}
 use Rattle.bridge_tool.proofs.lines.push_reports.Goals as goal
 
 pub loop-report-preserved : goal.loop-report-preserved

@@ -1,4 +1,5 @@
+use Rattle.bridge_tool.proofs.RunLemmas.{printed_answers}
 use Rattle.bridge_tool.proofs.program.check.Goals as goal
 
 pub returns-in-Ok : goal.returns-in-Ok
-returns-in-Ok g c = c.answer.ensures c.args.bytes.now c.in-Ok.ensures
+returns-in-Ok g c = printed_answers c.args.bytes.now c.in-Ok.input _ _ c.tell.result c.in-Ok.ensures.spelled c.tell.ensures

@@ -1,0 +1,274 @@
+//! Declarations with their answers, worked out by hand. Each is told in Rust's notation.
+//! `DiplomatStr` and `DiplomatStrSlice` are texts that may be no UTF-8. `O`, `Foo` and `Bar` are opaques.
+
+use super::program::runs_to;
+use std::alloc::{AllocError, Global};
+use std::test::*;
+
+/// Root modules that break no rule, with their pages.
+const ACCEPTED: [(&str, &str); 14] = [
+    // fn f<'a, 'b: 'a>(x: &'a O, y: &'b O) -> &'a O
+    (
+        r#"{"items":[{"kind":"opaque","name":"O"},{"kind":"function","name":"f","lifetimes":[{"name":"a","longer":[1]},{"name":"b","shorter":[0]}],"params":[{"name":"x","ty":{"ref":{"lifetime":"a","to":{"named":{"segments":["O"]}}}}},{"name":"y","ty":{"ref":{"lifetime":"b","to":{"named":{"segments":["O"]}}}}}],"ret":{"ref":{"lifetime":"a","to":{"named":{"segments":["O"]}}}}}]}"#,
+        "callable f\n  lifetime 0 a: x, y\n  edges: opaque x, opaque y\nok 1\n",
+    ),
+    // The same, but it returns &'b O: x doesn't live that long.
+    (
+        r#"{"items":[{"kind":"opaque","name":"O"},{"kind":"function","name":"f","lifetimes":[{"name":"a","longer":[1]},{"name":"b","shorter":[0]}],"params":[{"name":"x","ty":{"ref":{"lifetime":"a","to":{"named":{"segments":["O"]}}}}},{"name":"y","ty":{"ref":{"lifetime":"b","to":{"named":{"segments":["O"]}}}}}],"ret":{"ref":{"lifetime":"b","to":{"named":{"segments":["O"]}}}}}]}"#,
+        "callable f\n  lifetime 1 b: y\n  edges: opaque y\nok 1\n",
+    ),
+    // struct Input<'p, 'q> { p_data: &'p O, q_data: &'q O, name: DiplomatStrSlice<'static>, inner: Inner<'q> }, struct Inner<'a> { more_data: DiplomatStrSlice<'a> },
+    // struct Output<'p, 'q> { p_data: &'p O, q_data: &'q O }, impl<'a, 'b> Input<'a, 'b> { fn as_output(self, _s: &'static DiplomatStr) -> Output<'b, 'a> }
+    (
+        r#"{"items":[{"kind":"opaque","name":"O"},{"kind":"struct","name":"Input","lifetimes":[{"name":"p"},{"name":"q"}],"fields":[{"name":"p_data","ty":{"ref":{"lifetime":"p","to":{"named":{"segments":["O"]}}}}},{"name":"q_data","ty":{"ref":{"lifetime":"q","to":{"named":{"segments":["O"]}}}}},{"name":"name","ty":{"str":{"lifetime":"static","encoding":"unvalidated_utf8"}}},{"name":"inner","ty":{"named":{"segments":["Inner"],"lifetimes":["q"]}}}],"methods":[{"name":"as_output","self_type":{"segments":["Input"],"lifetimes":["a","b"]},"self":{"path":{"segments":["Input"],"lifetimes":["a","b"]}},"lifetimes":[{"name":"a"},{"name":"b"}],"params":[{"name":"_s","ty":{"str":{"lifetime":"static","encoding":"unvalidated_utf8"}}}],"ret":{"named":{"segments":["Output"],"lifetimes":["b","a"]}}}]},{"kind":"struct","name":"Inner","lifetimes":[{"name":"a"}],"fields":[{"name":"more_data","ty":{"str":{"lifetime":"a","encoding":"unvalidated_utf8"}}}]},{"kind":"struct","name":"Output","lifetimes":[{"name":"p"},{"name":"q"}],"fields":[{"name":"p_data","ty":{"ref":{"lifetime":"p","to":{"named":{"segments":["O"]}}}}},{"name":"q_data","ty":{"ref":{"lifetime":"q","to":{"named":{"segments":["O"]}}}}}]}]}"#,
+        "callable Input::as_output\n  lifetime 0 a: this.p_data\n  edges: struct this 0\n  lifetime 1 b: this.q_data, this.inner.more_data\n  edges: struct this 1\nok 1\n",
+    ),
+    // fn first(s: &DiplomatStr) -> &DiplomatStr
+    (
+        r#"{"items":[{"kind":"function","name":"first","params":[{"name":"s","ty":{"str":{"lifetime":"_","encoding":"unvalidated_utf8"}}}],"ret":{"str":{"lifetime":"_","encoding":"unvalidated_utf8"}}}]}"#,
+        "callable first\n  lifetime 0 anon_0: s\n  edges: slice s\nok 1\n",
+    ),
+    // struct S<'a> { o: DiplomatOption<T<'a>> }, struct T<'a> { s: DiplomatStrSlice<'a> }, fn f<'x>(p: S<'x>) -> &'x DiplomatStr
+    (
+        r#"{"items":[{"kind":"struct","name":"S","lifetimes":[{"name":"a"}],"fields":[{"name":"o","ty":{"diplomat_option":{"named":{"segments":["T"],"lifetimes":["a"]}}}}]},{"kind":"struct","name":"T","lifetimes":[{"name":"a"}],"fields":[{"name":"s","ty":{"str":{"lifetime":"a","encoding":"unvalidated_utf8"}}}]},{"kind":"function","name":"f","lifetimes":[{"name":"x"}],"params":[{"name":"p","ty":{"named":{"segments":["S"],"lifetimes":["x"]}}}],"ret":{"str":{"lifetime":"x","encoding":"unvalidated_utf8"}}}]}"#,
+        "callable f\n  lifetime 0 x: p.o.s\n  edges: struct p 0\nok 1\n",
+    ),
+    // opaque Foo<'a>, fn f<'a>(x: &'a Foo<'a>) -> &'a O: x is listed once.
+    (
+        r#"{"items":[{"kind":"opaque","name":"O"},{"kind":"opaque","name":"Foo","lifetimes":[{"name":"a"}]},{"kind":"function","name":"f","lifetimes":[{"name":"a"}],"params":[{"name":"x","ty":{"ref":{"lifetime":"a","to":{"named":{"segments":["Foo"],"lifetimes":["a"]}}}}}],"ret":{"ref":{"lifetime":"a","to":{"named":{"segments":["O"]}}}}}]}"#,
+        "callable f\n  lifetime 0 a: x\n  edges: opaque x\nok 1\n",
+    ),
+    // opaque Foo<'a>, fn f<'a: 'b, 'b: 'a>(hold: &'b Bar) -> Box<Foo<'a>>: each outlives the other.
+    (
+        r#"{"items":[{"kind":"opaque","name":"Bar"},{"kind":"opaque","name":"Foo","lifetimes":[{"name":"a"}]},{"kind":"function","name":"f","lifetimes":[{"name":"a","shorter":[1],"longer":[1]},{"name":"b","longer":[0],"shorter":[0]}],"params":[{"name":"hold","ty":{"ref":{"lifetime":"b","to":{"named":{"segments":["Bar"]}}}}}],"ret":{"box":{"named":{"segments":["Foo"],"lifetimes":["a"]}}}}]}"#,
+        "callable f\n  lifetime 0 a: hold\n  edges: opaque hold\nok 1\n",
+    ),
+    // opaque Opaque2<'a>, O::elided(&self, x: &Opaque2): three lifetimes without a name, and none is returned.
+    (
+        r#"{"items":[{"kind":"opaque","name":"O","methods":[{"name":"elided","self_type":{"segments":["O"]},"self":{"reference":{"lifetime":"_"},"path":{"segments":["O"]}},"params":[{"name":"x","ty":{"ref":{"lifetime":"_","to":{"named":{"segments":["Opaque2"]}}}}}]}]},{"kind":"opaque","name":"Opaque2","lifetimes":[{"name":"a"}]}]}"#,
+        "callable O::elided\nok 1\n",
+    ),
+    // Foo::borrows_opaque_slice<'a>(&'a self, op: &'a [&'a Foo])
+    (
+        r#"{"items":[{"kind":"opaque","name":"Foo","methods":[{"name":"borrows_opaque_slice","self_type":{"segments":["Foo"]},"self":{"reference":{"lifetime":"a"},"path":{"segments":["Foo"]}},"lifetimes":[{"name":"a"}],"params":[{"name":"op","ty":{"custom_slice":{"lifetime":"a","of":{"ref":{"lifetime":"a","to":{"named":{"segments":["Foo"]}}}},"std":true}}}]}]}]}"#,
+        "callable Foo::borrows_opaque_slice\nok 1\n",
+    ),
+    // Modules m and n, each with P<'a> { q: Q<'a> } and fn f<'a>(p: P<'a>) -> &'a DiplomatStr; m::Q<'a> { s: DiplomatStrSlice<'a> }, n::Q<'a> { t: DiplomatStrSlice<'a> }
+    (
+        r#"{"modules":[{"name":"m","items":[{"kind":"struct","name":"P","lifetimes":[{"name":"a"}],"fields":[{"name":"q","ty":{"named":{"segments":["Q"],"lifetimes":["a"]}}}]},{"kind":"struct","name":"Q","lifetimes":[{"name":"a"}],"fields":[{"name":"s","ty":{"str":{"lifetime":"a","encoding":"unvalidated_utf8"}}}]},{"kind":"function","name":"f","lifetimes":[{"name":"a"}],"params":[{"name":"p","ty":{"named":{"segments":["P"],"lifetimes":["a"]}}}],"ret":{"str":{"lifetime":"a","encoding":"unvalidated_utf8"}}}]},{"name":"n","items":[{"kind":"struct","name":"P","lifetimes":[{"name":"a"}],"fields":[{"name":"q","ty":{"named":{"segments":["Q"],"lifetimes":["a"]}}}]},{"kind":"struct","name":"Q","lifetimes":[{"name":"a"}],"fields":[{"name":"t","ty":{"str":{"lifetime":"a","encoding":"unvalidated_utf8"}}}]},{"kind":"function","name":"f","lifetimes":[{"name":"a"}],"params":[{"name":"p","ty":{"named":{"segments":["P"],"lifetimes":["a"]}}}],"ret":{"str":{"lifetime":"a","encoding":"unvalidated_utf8"}}}]}]}"#,
+        "callable m::f\n  lifetime 0 a: p.q.s\n  edges: struct p 0\ncallable n::f\n  lifetime 0 a: p.q.t\n  edges: struct p 0\nok 2\n",
+    ),
+    // struct S { x: u8 }, O::f<'a, 'b: 'a>(s: &'b S, o: &'a O) -> &'a O: a reference to a struct isn't borrowed from.
+    (
+        r#"{"items":[{"kind":"struct","name":"S","fields":[{"name":"x","ty":"u8"}]},{"kind":"opaque","name":"O","methods":[{"name":"f","self_type":{"segments":["O"]},"lifetimes":[{"name":"a","longer":[1]},{"name":"b","shorter":[0]}],"params":[{"name":"s","ty":{"ref":{"lifetime":"b","to":{"named":{"segments":["S"]}}}}},{"name":"o","ty":{"ref":{"lifetime":"a","to":{"named":{"segments":["O"]}}}}}],"ret":{"ref":{"lifetime":"a","to":{"named":{"segments":["O"]}}}}}]}]}"#,
+        "callable O::f\n  lifetime 0 a: o\n  edges: opaque o\nok 1\n",
+    ),
+    // struct T<'a> { s: DiplomatStrSlice<'a> }, fn f<'a, 'b: 'a>(x: &'a O, y: Option<&'b O>, z: DiplomatOption<T<'a>>) -> &'a O: the edge to a struct in an option is marked.
+    (
+        r#"{"items":[{"kind":"opaque","name":"O"},{"kind":"struct","name":"T","lifetimes":[{"name":"a"}],"fields":[{"name":"s","ty":{"str":{"lifetime":"a","encoding":"unvalidated_utf8"}}}]},{"kind":"function","name":"f","lifetimes":[{"name":"a","longer":[1]},{"name":"b","shorter":[0]}],"params":[{"name":"x","ty":{"ref":{"lifetime":"a","to":{"named":{"segments":["O"]}}}}},{"name":"y","ty":{"option":{"ref":{"lifetime":"b","to":{"named":{"segments":["O"]}}}}}},{"name":"z","ty":{"diplomat_option":{"named":{"segments":["T"],"lifetimes":["a"]}}}}],"ret":{"ref":{"lifetime":"a","to":{"named":{"segments":["O"]}}}}}]}"#,
+        "callable f\n  lifetime 0 a: x, y, z.s\n  edges: opaque x, opaque y, struct z 0 optional\nok 1\n",
+    ),
+    // fn g(), then opaque O with m and n, of which n is disabled: the methods of all types come before the functions.
+    (
+        r#"{"items":[{"kind":"function","name":"g"},{"kind":"opaque","name":"O","methods":[{"name":"m","self_type":{"segments":["O"]},"self":{"reference":{"lifetime":"_"},"path":{"segments":["O"]}}},{"name":"n","self_type":{"segments":["O"]},"self":{"reference":{"lifetime":"_"},"path":{"segments":["O"]}},"attrs":{"marks":[{"if":"*","mark":["disable"]}]}}]},{"kind":"function","name":"h","attrs":{"marks":[{"if":"*","mark":["disable"]}]}}]}"#,
+        "callable O::m\ncallable g\nok 2\n",
+    ),
+    // The same struct, disabled.
+    (
+        r#"{"items":[{"kind":"struct","name":"A","fields":[{"name":"b","ty":{"diplomat_option":{"named":{"segments":["A"]}}}}],"attrs":{"marks":[{"if":"*","mark":["disable"]}]}}]}"#,
+        "ok 0\n",
+    ),
+];
+
+/// Root modules that break one, with the flags of the backend and the reports.
+const REFUSED: [(&str, &str, &str); 13] = [
+    // fn f<'a>(x: &'a O, y: &'a O) -> &O
+    (
+        r#"{"items":[{"kind":"opaque","name":"O"},{"kind":"function","name":"f","lifetimes":[{"name":"a"}],"params":[{"name":"x","ty":{"ref":{"lifetime":"a","to":{"named":{"segments":["O"]}}}}},{"name":"y","ty":{"ref":{"lifetime":"a","to":{"named":{"segments":["O"]}}}}}],"ret":{"ref":{"lifetime":"_","to":{"named":{"segments":["O"]}}}}}]}"#,
+        USUAL,
+        "Lowering error in f\n  ElisionAmbiguous: source of elision is ambiguous\nrefused 1\n",
+    ),
+    // fn f(cb: impl Fn(&O), x: &O) -> &O
+    (
+        r#"{"items":[{"kind":"opaque","name":"O"},{"kind":"function","name":"f","params":[{"name":"cb","ty":{"fn":{"params":[{"ref":{"lifetime":"_","to":{"named":{"segments":["O"]}}}}]}}},{"name":"x","ty":{"ref":{"lifetime":"_","to":{"named":{"segments":["O"]}}}}}],"ret":{"ref":{"lifetime":"_","to":{"named":{"segments":["O"]}}}}}]}"#,
+        UNSAFE,
+        "Lowering error in f\n  ElisionAmbiguous: source of elision is ambiguous\nrefused 1\n",
+    ),
+    // struct S<'a> { s: DiplomatStrSlice<'a> }, impl<'a> S<'a> { fn get(self) -> &DiplomatStr }
+    (
+        r#"{"items":[{"kind":"struct","name":"S","lifetimes":[{"name":"a"}],"fields":[{"name":"s","ty":{"str":{"lifetime":"a","encoding":"unvalidated_utf8"}}}],"methods":[{"name":"get","self_type":{"segments":["S"],"lifetimes":["a"]},"self":{"path":{"segments":["S"],"lifetimes":["a"]}},"lifetimes":[{"name":"a"}],"ret":{"str":{"lifetime":"_","encoding":"unvalidated_utf8"}}}]}]}"#,
+        USUAL,
+        "Lowering error in S::get\n  ElisionNoSource: nothing to borrow from\nrefused 1\n",
+    ),
+    // struct A { b: DiplomatOption<A> }
+    (
+        r#"{"items":[{"kind":"struct","name":"A","fields":[{"name":"b","ty":{"diplomat_option":{"named":{"segments":["A"]}}}}]}]}"#,
+        USUAL,
+        "Lowering error in A\n  StructContainsItself: struct contains itself\nrefused 1\n",
+    ),
+    // Foo::apply_callback(&self, cb: impl FnMut(&Foo) -> DiplomatOption<&Foo>)
+    (
+        r#"{"items":[{"kind":"opaque","name":"Foo","methods":[{"name":"apply_callback","self_type":{"segments":["Foo"]},"self":{"reference":{"lifetime":"_"},"path":{"segments":["Foo"]}},"params":[{"name":"cb","ty":{"fn":{"params":[{"ref":{"lifetime":"_","to":{"named":{"segments":["Foo"]}}}}],"ret":{"diplomat_option":{"ref":{"lifetime":"_","to":{"named":{"segments":["Foo"]}}}}},"mutable":true}}}]}]}]}"#,
+        UNSAFE,
+        "Lowering error in Foo::apply_callback\n  DiplomatOptionOpaque: found DiplomatOption<T>, where T is opaque. Please use Option<&T> (DiplomatOption is for primitives, structs, and enums)\nrefused 1\n",
+    ),
+    // O::t(#[attr(*, default_value = 1.5)] a: u8)
+    (
+        r#"{"items":[{"kind":"opaque","name":"O","methods":[{"name":"t","self_type":{"segments":["O"]},"params":[{"name":"a","ty":"u8","attrs":{"marks":[{"if":"*","mark":["default_value"],"value":{"float":"1.5"}}]}}]}]}]}"#,
+        USUAL,
+        "Lowering error in O::t\n  BadDefaultValue: unsupported default value\nrefused 1\n",
+    ),
+    // mod m and its opaque P are both disabled.
+    (
+        r#"{"modules":[{"name":"m","attrs":{"marks":[{"if":"*","mark":["disable"]}]},"items":[{"kind":"opaque","name":"P","attrs":{"marks":[{"if":"*","mark":["disable"]}]}}]}]}"#,
+        USUAL,
+        "Lowering error in m::P\n  MarkRepeated: Duplicate `disable` attribute\nrefused 1\n",
+    ),
+    // fn f(x: Box<O>)
+    (
+        r#"{"items":[{"kind":"opaque","name":"O"},{"kind":"function","name":"f","params":[{"name":"x","ty":{"box":{"named":{"segments":["O"]}}}}]}]}"#,
+        USUAL,
+        "Lowering error in f\n  BoxMisplaced: found Box<T> where it is not allowed\nrefused 1\n",
+    ),
+    // struct S { x: u8 }, fn f(x: &S), and the backend has no references to structs.
+    (
+        r#"{"items":[{"kind":"struct","name":"S","fields":[{"name":"x","ty":"u8"}]},{"kind":"function","name":"f","params":[{"name":"x","ty":{"ref":{"lifetime":"_","to":{"named":{"segments":["S"]}}}}}]}]}"#,
+        NO_REFS,
+        "Lowering error in f\n  SupportDenied: backend must support struct_refs\nrefused 1\n",
+    ),
+    // use b as a; use a as b; fn f(x: &a)
+    (
+        r#"{"aliases":[{"name":"a","target":["b"]},{"name":"b","target":["a"]}],"items":[{"kind":"function","name":"f","params":[{"name":"x","ty":{"ref":{"lifetime":"_","to":{"named":{"segments":["a"]}}}}}]}]}"#,
+        USUAL,
+        "Lowering error in f\n  UnresolvedPath: a names nothing\nrefused 1\n",
+    ),
+    // opaque Foo<'a>, fn f(x: &Foo<'static, 'static>)
+    (
+        r#"{"items":[{"kind":"opaque","name":"Foo","lifetimes":[{"name":"a"}]},{"kind":"function","name":"f","params":[{"name":"x","ty":{"ref":{"lifetime":"_","to":{"named":{"segments":["Foo"],"lifetimes":["static","static"]}}}}}]}]}"#,
+        USUAL,
+        "Lowering error in f\n  LifetimeArity: Foo has too many lifetimes\nrefused 1\n",
+    ),
+    // all(auto) as a condition
+    (
+        r#"{"items":[{"kind":"opaque","name":"O","attrs":{"marks":[{"if":{"all":["auto"]},"mark":["disable"]}]}},{"kind":"function","name":"f"}]}"#,
+        USUAL,
+        "Lowering error in O\n  AutoMisplaced: auto is only allowed at the top level and within any\nrefused 1\n",
+    ),
+    // supports = nothing as a condition
+    (
+        r#"{"items":[{"kind":"opaque","name":"O","attrs":{"marks":[{"if":{"pair":["supports","nothing"]},"mark":["disable"]}]}},{"kind":"function","name":"f"}]}"#,
+        USUAL,
+        "Lowering error in O\n  UnknownPair: unknown name and value in a condition\nrefused 1\n",
+    ),
+];
+
+/// The flags that most of these declarations are tried with.
+const USUAL: &str =
+    r#","backend":{"name":"tests","supports":["static_slices","free_functions","struct_refs","option","callbacks","opaque_slices","default_args"]}}"#;
+
+/// The same, where callbacks may take references.
+const UNSAFE: &str =
+    r#","backend":{"name":"tests","supports":["static_slices","free_functions","struct_refs","option","callbacks","opaque_slices","default_args"]},"config":{"unsafe_references_in_callbacks":true}}"#;
+
+/// A backend without references to structs.
+const NO_REFS: &str =
+    r#","backend":{"name":"tests","supports":["static_slices","free_functions","option","callbacks","opaque_slices","default_args"]}}"#;
+
+/// Whether the run on the root module with these settings ends with the status and prints the text.
+fn answers(
+    alloc: Global,
+    root: &str,
+    settings: &str,
+    status: u8,
+    text: &str,
+) -> Result<bool, AllocError> {
+    let mut input = String::from_str(alloc, "{\"root\":")?;
+    input.push_str(root)?;
+    input.push_str(settings)?;
+    runs_to(alloc, &[], input.as_str(), status, text)
+}
+
+#[test]
+fn declarations_that_break_no_rule_have_their_page(rt: HostRuntime) -> Result<(), Fail> {
+    for (root, page) in ACCEPTED {
+        assert!(rt; answers(rt.alloc(), root, USUAL, 0, page)?, "{root}");
+    }
+    Ok(())
+}
+
+#[test]
+fn declarations_that_break_one_have_their_reports(rt: HostRuntime) -> Result<(), Fail> {
+    for (root, settings, lines) in REFUSED {
+        assert!(rt; answers(rt.alloc(), root, settings, 1, lines)?, "{root}");
+    }
+    Ok(())
+}
+
+/// Pushes the pieces, one after the other.
+fn push_all(text: &mut String, pieces: &[&str]) -> Result<(), AllocError> {
+    for piece in pieces {
+        text.push_str(piece)?;
+    }
+    Ok(())
+}
+
+/// An opaque `O`, `D1<'l> { a: &'l O, b: &'l O }`, each next `D<'l>` with the one before as `a` and as `b`, and a function that takes the last.
+fn doubled(alloc: Global, depth: usize) -> Result<String, AllocError> {
+    let reference = r#"{"ref":{"lifetime":"l","to":{"named":{"segments":["O"]}}}}"#;
+    let mut root = String::from_str(alloc, r#"{"items":[{"kind":"opaque","name":"O"}"#)?;
+    let mut ty = String::from_str(alloc, reference)?;
+    for level in 1..=depth {
+        let name = format!(in alloc; "D{level}")?;
+        push_all(
+            &mut root,
+            &[
+                r#",{"kind":"struct","name":""#,
+                name.as_str(),
+                r#"","lifetimes":[{"name":"l"}],"fields":[{"name":"a","ty":"#,
+                ty.as_str(),
+                r#"},{"name":"b","ty":"#,
+                ty.as_str(),
+                "}]}",
+            ],
+        )?;
+        ty = String::from_str(alloc, r#"{"named":{"segments":[""#)?;
+        push_all(&mut ty, &[name.as_str(), r#""],"lifetimes":["l"]}}"#])?;
+    }
+    push_all(
+        &mut root,
+        &[
+            r#",{"kind":"function","name":"f","lifetimes":[{"name":"l"}],"params":[{"name":"p","ty":"#,
+            ty.as_str(),
+            r#"}],"ret":"#,
+            reference,
+            "}]}",
+        ],
+    )?;
+    Ok(root)
+}
+
+/// The page of the function over the tenth: its paths are the numbers to 1,023 as ten binary digits, 0 as `a` and 1 as `b`.
+fn page_of_ten(alloc: Global) -> Result<String, AllocError> {
+    let mut page = String::from_str(alloc, "callable f\n  lifetime 0 l: ")?;
+    for number in 0u32..1024 {
+        if number > 0 {
+            page.push_str(", ")?;
+        }
+        page.push_str("p")?;
+        for place in 0u32..10 {
+            page.push_str(if (number >> (9 - place)) & 1 == 0 { ".a" } else { ".b" })?;
+        }
+    }
+    page.push_str("\n  edges: struct p 0\nok 1\n")?;
+    Ok(page)
+}
+
+#[test]
+fn leaves_are_told_up_to_their_limit(rt: HostRuntime) -> Result<(), Fail> {
+    let alloc = rt.alloc();
+    let page = page_of_ten(alloc)?;
+    assert!(rt; answers(alloc, doubled(alloc, 10)?.as_str(), USUAL, 0, page.as_str())?);
+    let lines = "Lowering error in f\n  TooManyLeaves: more than 1048576 borrowed leaves\nrefused 1\n";
+    assert!(rt; answers(alloc, doubled(alloc, 21)?.as_str(), USUAL, 1, lines)?);
+    Ok(())
+}
