@@ -136,7 +136,7 @@ const BRIDGE: &str = r#"{
     "supports": [
       "static_slices", "free_functions", "struct_refs", "option", "callbacks", "opaque_slices", "default_args",
       "constructors", "named_constructors", "stringifiers", "comparators", "iterators", "iterables",
-      "abi_compatibles", "traits", "utf8_strings"],
+      "abi_compatibles", "traits", "utf8_strings", "defaults"],
     "pairs": [{"name": "style", "value": "plain"}]
   },
   "config": {"unsafe_references_in_callbacks": false},
