@@ -1,4 +1,4 @@
-//! What the value that a method returns may borrow, for each method of the declarations of a foreign interface.
+//! What the value that a method or a function returns may borrow, for all methods and functions of the declarations of a foreign interface.
 //!
 //! ```rust
 //! impl O {
@@ -22,10 +22,11 @@
 //!
 //! 1. **The input** (`read_input`): the bytes spell declarations, a backend and a configuration, or they have a first fault. Then one line is
 //!    printed (`decline`), and the status is 2.
-//! 2. **The report** (`bridge_lowering::lower_and_borrow`): all declarations are lowered for the backend, and every rule is tested on the way. Were
-//!    `y` a `&'b Q`, the path `Q` would break the rule `UnresolvedPath` at the place `O::pick`. What is broken is told, with a report at each
-//!    broken place at least (`lines`): status 1. Where nothing is, the inputs of each method and function are its leaves, `this` and `y`, each
-//!    with the lifetimes that it carries. Under each lifetime that the return names, `'a`, those are listed that carry it or one that outlives it.
+//! 2. **The report** (`bridge_lowering::lower_and_borrow`): all declarations are lowered for the backend, and the rules of docs/REPORTS.md and
+//!    docs/DECLARATIONS.md are tested on the way. Were `y` a `&'b Q`, the path `Q` would break the rule `UnresolvedPath` at the place `O::pick`. What
+//!    is broken is told, with a report at each broken place at least (`lines`): status 1. Where nothing is, the leaves of the inputs of each method
+//!    and function are found, here `this` and `y`, each with the lifetimes that it carries. Under each lifetime that the return names, here `'a`,
+//!    those are listed that carry it or one that outlives it, and the edges that a wrapper holds.
 //! 3. **The page** (`bridge_page::print_page`) is printed: status 0. The report stands before its first byte is written.
 //!
 //! Asked for `links` (`command`), it prints a line for each link of the declarations to documentation in place of steps 2 and 3, and tests no rule
