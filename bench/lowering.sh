@@ -38,20 +38,24 @@ input() {
     }'
 }
 
+# The libraries that a crate stands on, and itself.
+with_below() {
+    sed -n "s/^$1: *//p" "$here/../crates.txt" | tr ' ' '\n'
+    echo "$1"
+}
+
 build() {
-    mkdir "$folder/crates"
-    cp "$here/../crates.txt" "$folder/"
-    echo 'lowering_times: bridge_outside bridge_read hir_lower' >>"$folder/crates.txt"
-    sed -e 's/#.*//' -e '/:/!d' -e 's/:.*//' "$here/../crates.txt" | while read -r crate; do
-        mkdir "$folder/crates/$crate"
-        for part in src specs proofs; do
-            [ ! -d "$here/../crates/$crate/$part" ] || cp -R "$here/../crates/$crate/$part" "$folder/crates/$crate/"
+    below=$( (with_below bridge_outside && with_below bridge_read && with_below hir_lower) | sort -u)
+    for crate in $below; do
+        [ -d "$here/../crates/$crate" ] || continue
+        grep "^$crate:" "$here/../crates.txt" >>"$folder/crates.txt"
+        mkdir -p "$folder/crates/$crate/out"
+        for part in src specs proofs out/rlib; do
+            [ ! -d "$here/../crates/$crate/$part" ] || cp -R "$here/../crates/$crate/$part" "$folder/crates/$crate/$part"
         done
-        if [ -d "$here/../crates/$crate/out/rlib" ]; then
-            mkdir "$folder/crates/$crate/out"
-            cp -R "$here/../crates/$crate/out/rlib" "$folder/crates/$crate/out/"
-        fi
     done
+    # shellcheck disable=SC2086
+    echo lowering_times: $below >>"$folder/crates.txt"
     mkdir -p "$folder/crates/lowering_times/src"
     cd "$folder/crates/lowering_times"
     cat >src/main.rt <<'PROGRAM'

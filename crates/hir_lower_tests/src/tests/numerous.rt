@@ -5,11 +5,10 @@ use bridge_decl::NoMemory;
 use std::alloc::Global;
 use std::test::Fail;
 
-const ROWS: [Row; 16] = [
+const ROWS: [Row; 12] = [
     // TooManyLifetimes.
     ("struct A<'*4096> { x: u8 }", "A TooManyLifetimes"),
     ("struct A<'*4096>", "A TooManyLifetimes"),
-    ("out_struct A<'*4096> { x: u8 }", "A TooManyLifetimes"),
     ("opaque A<'*4096>", "A TooManyLifetimes"),
     ("trait A<'*4096>", "A TooManyLifetimes"),
     ("trait A { fn m<'*4096>() }", "A::m TooManyLifetimes"),
@@ -22,13 +21,10 @@ const ROWS: [Row; 16] = [
     ),
     // As many as there may be.
     ("struct A<'*4095> { x: u8 }", "ok"),
-    ("opaque A<'*4095>", "ok"),
-    ("trait A<'*4095>", "ok"),
     ("fn f<'*4095>(x: u8)", "ok"),
     ("opaque O impl { fn m<'*4094>(&self) }", "ok"),
-    // They aren't counted where it is disabled.
+    // They aren't counted where what declares them is disabled.
     ("#disable struct A<'*4096> { x: u8 }", "ok"),
-    ("#disable fn f<'*4096>(x: u8)", "ok"),
 ];
 
 /// `NestingTooDeep`: so many structs, of which each contains the one before it, a declaration after them, and what is told.
