@@ -1,6 +1,5 @@
 -- What is said of an input, from what its declarations are answered with.
-use Rattle.std.proofs.Common.{◌≡◌, List, ℕ, sym, subst}
-use Rattle.bridge_callables.specs.Declared.{declared_callables}
+use Rattle.std.proofs.Common.{List, ℕ, sym, subst}
 use Rattle.bridge_lowering.specs.Answers.{AreAcceptedWith}
 use Rattle.bridge_read.specs.declared.input.Input.{Input}
 use Rattle.bridge_report.specs.Borrowings.{AreReported}
@@ -8,7 +7,6 @@ use Rattle.bridge_report.specs.Callables.{Callable}
 use Rattle.bridge_report.specs.InContext.{callables}
 use Rattle.bridge_report.specs.Page.{IsPage}
 use Rattle.bridge_report.specs.declared.report.BridgeReport.{BridgeReport}
-use Rattle.bridge_report.specs.declared.report.CallableReport.{CallableReport}
 use Rattle.bridge_tool.specs.Checking.{HasPage}
 use Rattle.hir_backends.specs.Validator.{basic_meaning}
 

@@ -1,12 +1,12 @@
 -- What a run did, and what that says of its status.
-use Rattle.std.proofs.Common.{◌≡◌, ◌≢◌, ℕ, ◌<◌, ◌≤◌, ◌^◌, Bool, List, [], ◌∷◌, length, map, get_or, Result, Ok, Err, refl, subst, sym, ap, ◌∙◌, arith, inl, inr}
-use Rattle.std.specs.Prelude.{◌↔◌, ◌⊎◌, IfSome, IsTrue, String, codes, string_bytes}
+use Rattle.std.proofs.Common.{◌≡◌, ◌≢◌, ℕ, ◌<◌, List, [], ◌∷◌, length, Result, Ok, Err, refl, subst, ap, ◌∙◌, arith, inl, inr}
+use Rattle.std.specs.Prelude.{◌⊎◌, String}
 use Rattle.std.specs.declared.alloc.Global.{Global}
 use Rattle.bridge_read.specs.Inputs.{SpellsInput}
 use Rattle.bridge_read.specs.declared.input.Input.{Input}
 use Rattle.bridge_outside.specs.declared.sink.SinkFault.{SinkFault}
 use Rattle.bridge_outside.specs.declared.sink.SinkFault.TheVariants.{Failed, NoMemory}
-use Rattle.bridge_outside.specs.Outside.{SinkState, SourceState, taken_with}
+use Rattle.bridge_outside.specs.Outside.{SinkState, taken_with}
 use Rattle.bridge_outside.specs.Printing.{Delivers}
 use Rattle.bridge_tool.specs.declared.status.Status.{Status}
 use Rattle.bridge_tool.specs.declared.status.Status.TheVariants as status
@@ -15,7 +15,6 @@ use Rattle.bridge_tool.specs.Commands.{AskFor}
 use Rattle.bridge_tool.specs.Running.{World, Answers, AnswersCheck, FirstPart, Ran, Says, WereRead}
 use Rattle.bridge_tool.specs.declared.command.Command.{Command}
 use Rattle.bridge_tool.specs.declared.command.Command.TheVariants as ask
-use Rattle.bridge_tool.specs.Declining.{AreFaulty}
 use Rattle.bridge_tool.specs.Statuses.{code_of}
 use Rattle.bridge_tool.specs.inside.Answering.{IsWhole, Printed, TellsOf, ended_with}
 
@@ -64,11 +63,6 @@ printed_answers bytes input old new status.NoMemory spells (inl same) = inl same
 printed_answers bytes input old new status.NoMemory spells (inr part) = inr (part_answers bytes input old new spells part)
 printed_answers bytes input old new status.BadWords spells p = absurd p
 printed_answers bytes input old new status.TooLong spells p = absurd p
-
--- the line that declines bytes answers each command
-pub faulty_answers : (asked : Command) (bytes line : List ℕ) → AreFaulty bytes line → Answers asked bytes status.NotDeclarations line
-faulty_answers ask.Check bytes line faulty = faulty
-faulty_answers ask.Links bytes line faulty = faulty
 
 -- what was read was answered
 pub says_answered : (words : List (String Global)) (command : Command) (old new : World) (bytes : List ℕ) → AskFor words command

@@ -1,5 +1,5 @@
 -- What is said of the declarations of an input, for its backend and by its configuration.
-use Rattle.std.specs.Prelude.{◌≡◌, ℕ, List, ◌++◌, codes, decimal, length}
+use Rattle.std.specs.Prelude.{ℕ, List, ◌++◌, codes, decimal, length}
 use Rattle.std.specs.List.{flat_map}
 use Rattle.bridge_lowering.specs.Answers.{AreRefusedWith, IsPageOf}
 use Rattle.bridge_lowering.specs.Broken.{BreakNothing}

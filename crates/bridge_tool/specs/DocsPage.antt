@@ -1,5 +1,5 @@
 -- The page of an input's links to documentation.
-use Rattle.std.specs.Prelude.{◌≡◌, ℕ, List, slice_get}
+use Rattle.std.specs.Prelude.{ℕ, List, slice_get}
 use Rattle.std.specs.List.{flat_map}
 use Rattle.bridge_decl.specs.declared.modules.Module.{Module}
 use Rattle.bridge_links.specs.LinkLines.{PlacedLink, links_page, module_links}

@@ -14,7 +14,6 @@ ghost use Rattle.bridge_tool.specs.Declining.{IsFaultOf};
 ghost use Rattle.bridge_tool.specs.Following.{Follows};
 ghost use Rattle.bridge_tool.specs.Headline.{Headline, IsComplete};
 ghost use Rattle.bridge_tool.specs.Running.{Answers, AnswersCheck, AnswersLinks, Ran, Says, World, world};
-ghost use Rattle.bridge_tool.specs.declared.command.Command.{Command as Asked};
 ghost use Rattle.bridge_tool.specs.inside.Answering.{Printed, TellsOf, ended_with};
 ghost use Rattle.hir_backends.specs.Validator.{basic_meaning};
 
@@ -82,8 +81,10 @@ fn tell<K: Sink>(alloc: Global, sink: &mut K, input: &Input) -> Status
 
 /// Prints the line that declines bytes that spell no input.
 fn decline<K: Sink>(sink: &mut K, kind: InputKind, pointer: &Text) -> Status
-    ensures { (command : Asked) (bytes : List ℕ) → IsFaultOf bytes kind pointer.now
-        → Printed (Answers command bytes) (K.state sink.old) (K.state sink.new) result }
+    ensures check { (bytes : List ℕ) → IsFaultOf bytes kind pointer.now
+        → Printed (AnswersCheck bytes) (K.state sink.old) (K.state sink.new) result }
+    ensures links { (bytes : List ℕ) → IsFaultOf bytes kind pointer.now
+        → Printed (AnswersLinks bytes) (K.state sink.old) (K.state sink.new) result }
 {
     let printed = print_fault(sink, kind, pointer.as_str());
     ended(Status::NotDeclarations, printed)

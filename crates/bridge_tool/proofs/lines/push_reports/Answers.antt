@@ -1,4 +1,4 @@
-use Rattle.std.proofs.Common.{◌≡◌, ◌++◌, ◌∙◌, ap, append_assoc, take, string_bytes}
+use Rattle.std.proofs.Common.{◌++◌, ◌∙◌, ap, append_assoc, take, string_bytes}
 use Rattle.std.specs.List.{flat_map}
 use Rattle.hir_reports.specs.Texts.{report_text}
 use Rattle.bridge_tool.proofs.LineLemmas.{flat_map_one_more}

@@ -1,6 +1,3 @@
-use Rattle.std.proofs.Common.{List, ℕ, sym, subst}
-use Rattle.bridge_callables.specs.Declared.{declared_callables}
-use Rattle.bridge_report.specs.Page.{IsPage}
 use Rattle.bridge_tool.specs.declared.status.Status.TheVariants as status
 use Rattle.bridge_tool.specs.inside.Answering.{TellsOf}
 use Rattle.bridge_tool.proofs.DeclaredLemmas.{has_page}

@@ -1,15 +1,18 @@
 use Rattle.std.proofs.Common.{refl}
-use Rattle.bridge_tool.specs.declared.command.Command.{Command}
-use Rattle.bridge_tool.specs.declared.command.Command.TheVariants as ask
 use Rattle.bridge_tool.specs.declared.status.Status.TheVariants as status
 use Rattle.bridge_tool.specs.Declining.{fault_line}
-use Rattle.bridge_tool.specs.Running.{Answers}
-use Rattle.bridge_tool.proofs.RunLemmas.{faulty_answers, printed_text}
+use Rattle.bridge_tool.specs.Running.{AnswersCheck, AnswersLinks}
+use Rattle.bridge_tool.proofs.RunLemmas.{printed_text}
 use Rattle.bridge_tool.proofs.program.decline.Goals as goal
 
-pub returns : goal.returns
-returns g c = λ asked bytes fault.
+pub returns-clause-check : goal.returns-clause-check
+returns-clause-check g c = λ bytes fault.
     rw c.ended.ensures
-    (printed_text (Answers asked bytes) status.NotDeclarations (fault_line c.args.kind c.as_str.result.now) c.print_fault-printed.result (λ whole. whole) c.print_fault-printed.ensures
-    (faulty_answers asked bytes (fault_line c.args.kind c.as_str.result.now)
-    (record { what = c.args.kind; pointer = c.as_str.result.now; fault = rw c.as_str.ensures fault; is = refl })))
+    (printed_text (AnswersCheck bytes) status.NotDeclarations (fault_line c.args.kind c.as_str.result.now) c.print_fault-printed.result (λ whole. whole) c.print_fault-printed.ensures
+    (record { what = c.args.kind; pointer = c.as_str.result.now; fault = rw c.as_str.ensures fault; is = refl }))
+
+pub returns-clause-links : goal.returns-clause-links
+returns-clause-links g c = λ bytes fault.
+    rw c.ended.ensures
+    (printed_text (AnswersLinks bytes) status.NotDeclarations (fault_line c.args.kind c.as_str.result.now) c.print_fault-printed.result (λ whole. whole) c.print_fault-printed.ensures
+    (record { what = c.args.kind; pointer = c.as_str.result.now; fault = rw c.as_str.ensures fault; is = refl }))
