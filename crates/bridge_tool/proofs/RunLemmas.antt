@@ -14,7 +14,6 @@ use Rattle.bridge_tool.specs.Following.{Follows}
 use Rattle.bridge_tool.specs.Commands.{AskFor}
 use Rattle.bridge_tool.specs.Running.{World, Answers, AnswersCheck, FirstPart, Ran, Says, WereRead}
 use Rattle.bridge_tool.specs.declared.command.Command.{Command}
-use Rattle.bridge_tool.specs.declared.command.Command.TheVariants as ask
 use Rattle.bridge_tool.specs.Statuses.{code_of}
 use Rattle.bridge_tool.specs.inside.Answering.{IsWhole, Printed, TellsOf, ended_with}
 
