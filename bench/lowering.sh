@@ -1,8 +1,8 @@
 #!/bin/sh
-# Times `TypeContext::from_env` of `hir_lower`, in seconds, the least of three processes each: on an opaque with 10,000 methods, on 100,000 structs of
-# which each contains the one before it but for the first of eight, on a struct with a million fields, and on 100,000 modules with a struct each. A
-# process reads its input by `bridge_read`, which isn't timed. The program is made in a temporary folder, beside a copy of the crates and of what
-# is built of them in out/, and is deleted with it; crates that aren't built are proved there first.
+# Times `TypeContext::from_env` of `hir_lower`, in seconds, the least of five processes each: on an opaque with 10,000 methods, on 100,000 structs of
+# which each contains the one before it but for the first of eight, on a struct with a million fields, and on 100,000 modules with a struct each; and
+# on half as much of each. A process reads its input by `bridge_read`, which isn't timed. The program is made in a temporary folder, beside a copy of
+# the crates and of what is built of them in out/, and is deleted with it; crates that aren't built are proved there first.
 #
 #   bench/lowering.sh            makes the program, and times it
 #   bench/lowering.sh PROGRAM    times a program that was made before
@@ -106,9 +106,9 @@ PROGRAM
 
 if [ $# -ge 1 ]; then program=$1; else build; fi
 
-for row in 'methods 10000' 'structs 100000' 'fields 1000000' 'modules 100000'; do
+for row in 'methods 5000' 'methods 10000' 'structs 50000' 'structs 100000' 'fields 500000' 'fields 1000000' 'modules 50000' 'modules 100000'; do
     input ${row% *} ${row#* } >"$folder/input.json"
-    for _ in 1 2 3; do
+    for _ in 1 2 3 4 5; do
         "$program" <"$folder/input.json"
     done | sort -n | head -n 1 | awk -v row="$row" '{ printf "%-16s %8.3f %s %s\n", row, $1 / 1e9, $2, $3 }'
 done
