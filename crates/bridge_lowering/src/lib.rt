@@ -18,3 +18,4 @@
 mod borrowed;
 
 pub use borrowed::lower_and_borrow;
+pub use hir_lower::LowerFault;

@@ -46,7 +46,7 @@ mod program;
 mod status;
 mod text;
 
-pub use bridge_lowering::lower_and_borrow;
+pub use bridge_lowering::{LowerFault, lower_and_borrow};
 pub use bridge_outside::{
     Failed, MemSink, MemSource, PlainSink, PlainSource, Sink, SinkFault, Source, StdSink, StdSource,
 };

@@ -24,12 +24,11 @@ use crate::lines::report_lines;
 use crate::status::Status;
 use crate::text::print_text;
 use bridge_ast::Text;
-use bridge_lowering::lower_and_borrow;
+use bridge_lowering::{LowerFault, lower_and_borrow};
 use bridge_outside::{ReadFault, Sink, SinkFault, Source, read_all};
 use bridge_page::print_page;
 use bridge_read::{Input, InputFault, InputKind, read_input};
 use bridge_report::BridgeReport;
-use hir_lower::LowerFault;
 use hir_reports::LoweringReport;
 use std::alloc::{AllocError, Global};
 
