@@ -47,7 +47,7 @@ none_stands : {A : Type 0} (xs : List A) (x : A) → xs ≡ [] → ¬ (Contains 
 none_stands xs x e h = let k : Contains [] x = subst (λ ys. Contains ys x) e h in omega (arith, k.1)
 
 module _ (one_catalog : OneCatalog) (modules : List Module) (backend : Backend) (config : LoweringConfig) (catalog : Catalog)
-  (is : IsCatalog modules catalog) where
+    (is : IsCatalog modules catalog) where
   -- the declarations by this catalog
   abbrev it : Interface
   it = interface_of modules backend config (naming_of modules) catalog

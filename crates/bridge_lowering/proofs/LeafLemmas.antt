@@ -29,8 +29,8 @@ pub told_breaks : (cs : List Callable) (r : LoweringReport) → Contains (leaf_r
 told_breaks [] r h = absurd (omega (arith, h.1))
 told_breaks (c ∷ cs) r h = elim (Contains-append_cases (leaf_reports_of c) (leaf_reports cs) r h) [
   | inl l ↦
-    let t = told_of (nat_lt most_leaves (length c.leaves)) c r l in
-    record { callable = c; among = stands_first c cs; more = ltb-true most_leaves (length c.leaves) t.0; is = t.1 }
+      let t = told_of (nat_lt most_leaves (length c.leaves)) c r l in
+      record { callable = c; among = stands_first c cs; more = ltb-true most_leaves (length c.leaves) t.0; is = t.1 }
   | inr rest ↦ later c (told_breaks cs r rest)
 ]
 

@@ -256,7 +256,11 @@ fn page_of_ten(alloc: Global) -> Result<String, AllocError> {
         }
         page.push_str("p")?;
         for place in 0u32..10 {
-            page.push_str(if (number >> (9 - place)) & 1 == 0 { ".a" } else { ".b" })?;
+            page.push_str(if (number >> (9 - place)) & 1 == 0 {
+                ".a"
+            } else {
+                ".b"
+            })?;
         }
     }
     page.push_str("\n  edges: struct p 0\nok 1\n")?;
@@ -268,7 +272,8 @@ fn leaves_are_told_up_to_their_limit(rt: HostRuntime) -> Result<(), Fail> {
     let alloc = rt.alloc();
     let page = page_of_ten(alloc)?;
     assert!(rt; answers(alloc, doubled(alloc, 10)?.as_str(), USUAL, 0, page.as_str())?);
-    let lines = "Lowering error in f\n  TooManyLeaves: more than 1048576 borrowed leaves\nrefused 1\n";
+    let lines =
+        "Lowering error in f\n  TooManyLeaves: more than 1048576 borrowed leaves\nrefused 1\n";
     assert!(rt; answers(alloc, doubled(alloc, 21)?.as_str(), USUAL, 1, lines)?);
     Ok(())
 }
