@@ -19,13 +19,23 @@ fn put_number(alloc: Global, text: &mut String, word: &str, number: usize) -> Re
     text.push_str(number.to_string(alloc)?.as_str())
 }
 
+/// The word for the kind of an id, and its place.
+fn kind_of(id: TypeId) -> (&'static str, usize) {
+    match id {
+        TypeId::Struct(id) => ("struct ", id.index()),
+        TypeId::OutStruct(id) => ("out_struct ", id.index()),
+        TypeId::Opaque(id) => ("opaque ", id.index()),
+        TypeId::Enum(id) => ("enum ", id.index()),
+    }
+}
+
 /// Adds what a type names.
 fn put_id(alloc: Global, text: &mut String, id: Option<TypeId>) -> Result<(), NoMemory> {
     match id {
-        Some(TypeId::Struct(id)) => put_number(alloc, text, "struct ", id.index()),
-        Some(TypeId::OutStruct(id)) => put_number(alloc, text, "out_struct ", id.index()),
-        Some(TypeId::Opaque(id)) => put_number(alloc, text, "opaque ", id.index()),
-        Some(TypeId::Enum(id)) => put_number(alloc, text, "enum ", id.index()),
+        Some(id) => {
+            let (word, place) = kind_of(id);
+            put_number(alloc, text, word, place)
+        }
         None => text.push_str("value"),
     }
 }
