@@ -204,46 +204,49 @@ fn declarations_that_break_one_have_their_reports(rt: HostRuntime) -> Result<(),
     Ok(())
 }
 
-/// Pushes the pieces, one after the other.
-fn push_all(text: &mut String, pieces: &[&str]) -> Result<(), AllocError> {
-    for piece in pieces {
-        text.push_str(piece)?;
+/// A struct by its number, over the lifetime `'l`; before the first stands a reference to the opaque.
+fn held(alloc: Global, level: usize) -> Result<String, AllocError> {
+    if level == 0 {
+        return String::from_str(
+            alloc,
+            r#"{"ref":{"lifetime":"l","to":{"named":{"segments":["O"]}}}}"#,
+        );
     }
-    Ok(())
+    let mut ty = String::from_str(alloc, r#"{"named":{"segments":["D"#)?;
+    ty.push_str(level.to_string(alloc)?.as_str())?;
+    ty.push_str(r#""],"lifetimes":["l"]}}"#)?;
+    Ok(ty)
+}
+
+/// Adds the struct of a number, which holds a type twice.
+fn push_struct(alloc: Global, root: &mut String, level: usize, ty: &str) -> Result<(), AllocError> {
+    root.push_str(r#",{"kind":"struct","name":"D"#)?;
+    root.push_str(level.to_string(alloc)?.as_str())?;
+    root.push_str(r#"","lifetimes":[{"name":"l"}],"fields":[{"name":"a","ty":"#)?;
+    root.push_str(ty)?;
+    root.push_str(r#"},{"name":"b","ty":"#)?;
+    root.push_str(ty)?;
+    root.push_str("}]}")
+}
+
+/// Adds the function that takes a type and returns a reference to the opaque.
+fn push_function(root: &mut String, ty: &str) -> Result<(), AllocError> {
+    root.push_str(
+        r#",{"kind":"function","name":"f","lifetimes":[{"name":"l"}],"params":[{"name":"p","ty":"#,
+    )?;
+    root.push_str(ty)?;
+    root.push_str(r#"}],"ret":{"ref":{"lifetime":"l","to":{"named":{"segments":["O"]}}}}}]}"#)
 }
 
 /// An opaque `O`, `D1<'l> { a: &'l O, b: &'l O }`, each next `D<'l>` with the one before as `a` and as `b`, and a function that takes the last.
 fn doubled(alloc: Global, depth: usize) -> Result<String, AllocError> {
-    let reference = r#"{"ref":{"lifetime":"l","to":{"named":{"segments":["O"]}}}}"#;
     let mut root = String::from_str(alloc, r#"{"items":[{"kind":"opaque","name":"O"}"#)?;
-    let mut ty = String::from_str(alloc, reference)?;
-    for level in 1..=depth {
-        let name = format!(in alloc; "D{level}")?;
-        push_all(
-            &mut root,
-            &[
-                r#",{"kind":"struct","name":""#,
-                name.as_str(),
-                r#"","lifetimes":[{"name":"l"}],"fields":[{"name":"a","ty":"#,
-                ty.as_str(),
-                r#"},{"name":"b","ty":"#,
-                ty.as_str(),
-                "}]}",
-            ],
-        )?;
-        ty = String::from_str(alloc, r#"{"named":{"segments":[""#)?;
-        push_all(&mut ty, &[name.as_str(), r#""],"lifetimes":["l"]}}"#])?;
+    for before in 0..depth {
+        let ty = held(alloc, before)?;
+        push_struct(alloc, &mut root, before + 1, ty.as_str())?;
     }
-    push_all(
-        &mut root,
-        &[
-            r#",{"kind":"function","name":"f","lifetimes":[{"name":"l"}],"params":[{"name":"p","ty":"#,
-            ty.as_str(),
-            r#"}],"ret":"#,
-            reference,
-            "}]}",
-        ],
-    )?;
+    let ty = held(alloc, depth)?;
+    push_function(&mut root, ty.as_str())?;
     Ok(root)
 }
 
