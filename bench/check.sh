@@ -102,7 +102,7 @@ timed() {
 }
 
 printf '%-9s %9s %8s %9s %9s %9s %9s   %s\n' shape size MB links memory check memory answer
-for row in "structs 1000" "structs 10000" "structs 80000" "methods 1000" "methods 10000" "chain 1000" "doubled 20" "doubled 21" \
+for row in "structs 1000" "structs 10000" "structs 80000" "methods 1000" "methods 10000" "chain 1000" "doubled 19" "doubled 20" \
     "ring 10000" "aliases 10000" "items 1000000" "modules 100000"; do
     # shellcheck disable=SC2086
     set -- $row
