@@ -1,8 +1,8 @@
 #!/bin/sh
 # Times both visitors of `hir_borrow`, the one level deep without slices and with them: 1,000 times of a method with 30 lifetimes in a chain, of
-# which it returns all or one, and 30 parameters, 50 times of one that takes a struct 200 deep, and once of one that takes a struct with 2^20 leaves. In milliseconds, the least of five
-# processes. The program is made in a temporary folder, beside a copy of the crates and of what the tests of borrowing make contexts by, is proved
-# there first, and is deleted with it.
+# which it returns all or one, and 30 parameters, 50 times of one that takes a struct 200 deep, and once of one that takes a struct with 2^20 leaves.
+# In milliseconds, the least of five processes. The program is made in a temporary folder, beside a copy of the crates, of what is built of them in
+# out/, and of what the tests of borrowing make contexts by, is proved there first, with the crates that aren't built, and is deleted with it.
 #
 #   bench/borrowing.sh            makes the program, and times it
 #   bench/borrowing.sh PROGRAM    times a program that was made before
@@ -18,10 +18,10 @@ build() {
     for crate in $below hir_borrow; do
         if [ -d "$here/../crates/$crate" ]; then
             grep "^$crate:" "$here/../crates.txt" >>"$folder/crates.txt"
-            mkdir -p "$folder/crates/$crate"
-            for part in src specs proofs; do
+            mkdir -p "$folder/crates/$crate/out"
+            for part in src specs proofs out/rlib; do
                 if [ -d "$here/../crates/$crate/$part" ]; then
-                    cp -R "$here/../crates/$crate/$part" "$folder/crates/$crate/"
+                    cp -R "$here/../crates/$crate/$part" "$folder/crates/$crate/$part"
                 fi
             done
         fi
