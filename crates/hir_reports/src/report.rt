@@ -1,6 +1,6 @@
 //! What a report tells.
 
-ghost use Rattle.std.specs.Prelude.{◌≡◌, IfOk, Some, map};
+ghost use Rattle.std.specs.Prelude.{◌≡◌, IfOk, Some, length, map};
 ghost use Rattle.std.specs.Fmt.{DisplaysOnOk};
 ghost use Rattle.hir_reports.specs.Rules.{pieces};
 ghost use Rattle.hir_reports.specs.Texts.{plain_error, woven, pieces_around, error_text, place_line, error_line, report_text};
@@ -42,6 +42,14 @@ impl LoweringError {
             copies.push(Text::new(alloc, arg)?)?;
         }
         Ok(LoweringError { rule, args: copies })
+    }
+
+    /// The pieces of its text, with one of its arguments between each two: so the text can be told without memory.
+    pub fn pieces(&self) -> &'static [&'static str]
+        ensures { map (λ piece. piece.now) result.now
+            ≡ pieces_around self.now.rule (length self.now.args) }
+    {
+        pieces_around(self.rule, self.args.len())
     }
 }
 
@@ -93,8 +101,7 @@ impl fmt::Display for LoweringError {
     ghost output = { λ error. Some (error_text error) };
 
     fn fmt<W: fmt::Write>(&self, f: &mut fmt::Formatter<W>) -> fmt::Result {
-        let args = self.args.as_slice();
-        put_woven(f, pieces_around(self.rule, args.len()), args)
+        put_woven(f, self.pieces(), self.args.as_slice())
     }
 }
 
