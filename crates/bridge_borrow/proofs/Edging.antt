@@ -15,14 +15,14 @@ use Rattle.hir_skeleton.specs.Edges.{ShallowEdge, Whole, Position, edge_at, shal
 use Rattle.hir_skeleton.specs.Leaves.{number_passes}
 use Rattle.hir_skeleton.specs.Lowered.{carrier_of}
 use Rattle.hir_skeleton.specs.Skeletons.{Skeleton}
-use Rattle.bridge_report.specs.Borrowings.{edge_kind, input_edges, input_place, whole_kind}
+use Rattle.bridge_report.specs.Borrowings.{edge_kind, edges_of_input, input_place, kind_of_whole}
 use Rattle.bridge_report.specs.Callables.{CallableInput}
-use Rattle.bridge_report.specs.InContext.{method_inputs, outline, param_input, receiver_input}
+use Rattle.bridge_report.specs.InContext.{callable_inputs, outline, param_input, receiver_input}
 use Rattle.bridge_report.specs.declared.report.InputPlace.{InputPlace}
 use Rattle.bridge_report.specs.declared.report.InputPlace.TheVariants as place
 use Rattle.bridge_report.specs.declared.report.ReportEdge.{ReportEdge}
 use Rattle.bridge_report.specs.declared.report.ReportEdgeKind.TheVariants as kind
-use Rattle.bridge_borrow.specs.inside.Edges.{edges_at, method_edges, param_edges, params_edges, part_edges, receiver_edges, struct_edges, whole_edges}
+use Rattle.bridge_borrow.specs.inside.Edges.{edges_at, method_edges, param_edges, params_edges, part_edges, receiver_edges, edges_of_struct, edges_of_whole}
 
 -- ---- an input by its part
 
@@ -30,12 +30,12 @@ module _ (at : InputPlace) (slice : Bool) where
   abbrev told : ShallowEdge (Unit {0}) → ReportEdge
   told edge = record { input = at; kind = edge_kind slice edge }
 
-  whole_by : (b : Bool) → cond b (record { input = at; kind = whole_kind slice } ∷ []) [] ≡ map told (cond b (Whole ∷ []) [])
+  whole_by : (b : Bool) → cond b (record { input = at; kind = kind_of_whole slice } ∷ []) [] ≡ map told (cond b (Whole ∷ []) [])
   whole_by true = refl
   whole_by false = refl
 
   carrier_told : (test : ℕ → Bool) (optional : Bool) (lifetimes : List (MaybeStatic ℕ))
-      → whole_edges at test slice lifetimes ≡ map told (shallow_edges test optional (outline (carrier_of {K = TypeId} lifetimes)))
+      → edges_of_whole at test slice lifetimes ≡ map told (shallow_edges test optional (outline (carrier_of {K = TypeId} lifetimes)))
   carrier_told test optional [] = refl
   carrier_told test optional (l ∷ ls) = whole_by (list_any (number_passes test) (l ∷ ls))
 
@@ -45,7 +45,7 @@ module _ (at : InputPlace) (slice : Bool) where
   argument_by false n optional ones others rest = rest
 
   struct_told : (test : ℕ → Bool) (optional : Bool) (n : ℕ) (args : List (MaybeStatic ℕ))
-      → struct_edges at test optional n args ≡ map told (filter_map (edge_at test optional tt) (enumerate_from n args))
+      → edges_of_struct at test optional n args ≡ map told (filter_map (edge_at test optional tt) (enumerate_from n args))
   struct_told test optional n [] = refl
   struct_told test optional n (l ∷ ls) = argument_by (number_passes test l) n optional _ _ (struct_told test optional (n + 1) ls)
 
@@ -69,24 +69,24 @@ edges_by_part at test input s p is slice shown =
 -- ---- all inputs
 
 module _ (test : ℕ → Bool) where
-  params_first : (n : ℕ) (params : List Param) → params_edges test n params ≡ flat_map (input_edges false test) (enumerate_from n (map param_input params))
+  params_first : (n : ℕ) (params : List Param) → params_edges test n params ≡ flat_map (edges_of_input false test) (enumerate_from n (map param_input params))
   params_first n [] = refl
   params_first n (p ∷ ps) = ap (λ es. param_edges test (n, p) ++ es) (params_first (n + 1) ps)
 
   later_place : (n : ℕ) → place.Param n ≡ input_place true (n + 1)
   later_place n = let e : suc n ≡ n + 1 = omega arith in ap (input_place true) e
 
-  params_later : (n : ℕ) (params : List Param) → params_edges test n params ≡ flat_map (input_edges true test) (enumerate_from (n + 1) (map param_input params))
+  params_later : (n : ℕ) (params : List Param) → params_edges test n params ≡ flat_map (edges_of_input true test) (enumerate_from (n + 1) (map param_input params))
   params_later n [] = refl
   params_later n (p ∷ ps) =
       ap (λ es. param_edges test (n, p) ++ es) (params_later (n + 1) ps)
-      ∙ ap (λ at. edges_at at test (param_input p) ++ flat_map (input_edges true test) (enumerate_from (n + 1 + 1) (map param_input ps))) (later_place n)
+      ∙ ap (λ at. edges_at at test (param_input p) ++ flat_map (edges_of_input true test) (enumerate_from (n + 1 + 1) (map param_input ps))) (later_place n)
 
   inputs_by : (receiver : Option ParamSelf) (params : List Param)
       → where_any (receiver_edges test) receiver ++ params_edges test 0 params
-      ≡ flat_map (input_edges (is_some receiver) test) (enumerate_from 0 (where_any (λ receiver. receiver_input receiver.ty ∷ []) receiver ++ map param_input params))
+      ≡ flat_map (edges_of_input (is_some receiver) test) (enumerate_from 0 (where_any (λ receiver. receiver_input receiver.ty ∷ []) receiver ++ map param_input params))
   inputs_by None params = params_first 0 params
   inputs_by (Some receiver) params = ap (λ es. receiver_edges test receiver ++ es) (params_later 0 params)
 
-  pub method_told : (m : Method) → method_edges test m ≡ flat_map (input_edges (is_some m.param_self) test) (enumerate_from 0 (method_inputs m))
+  pub method_told : (m : Method) → method_edges test m ≡ flat_map (edges_of_input (is_some m.param_self) test) (enumerate_from 0 (callable_inputs m))
   method_told m = inputs_by m.param_self m.params

@@ -26,7 +26,7 @@ use Rattle.bridge_report.specs.declared.report.CallableId.{CallableId}
 use Rattle.bridge_report.specs.declared.report.CallableId.TheVariants as callable
 use Rattle.bridge_report.specs.declared.report.CallableReport.{CallableReport}
 use Rattle.bridge_report.specs.declared.report.ReturnedLifetime.{ReturnedLifetime}
-use Rattle.bridge_borrow.specs.inside.Returned.{IsUnder, KeepsLonger}
+use Rattle.bridge_borrow.specs.inside.Returned.{IsListedUnder, KeepsLonger}
 use Rattle.bridge_borrow.proofs.Leafing.{same_paths}
 
 -- ---- lists
@@ -86,17 +86,17 @@ keeps_named defs m visitor numbers keys starts lists t among =
 
 -- what is returned so far, and then the lifetimes that are left; after one more
 pub under_next : (m : Method) (fields : List NamedLeaf) (numbers left rest : List ℕ) (t : ℕ) (returned after : List ReturnedLifetime) (one : ReturnedLifetime)
-    → left ≡ t ∷ rest → after ≡ returned ++ one ∷ [] → IsUnder m fields one t
-    → (done : List ℕ) × (done ++ left ≡ numbers) × AllZip (IsUnder m fields) returned done
-    → (done : List ℕ) × (done ++ rest ≡ numbers) × AllZip (IsUnder m fields) after done
+    → left ≡ t ∷ rest → after ≡ returned ++ one ∷ [] → IsListedUnder m fields one t
+    → (done : List ℕ) × (done ++ left ≡ numbers) × AllZip (IsListedUnder m fields) returned done
+    → (done : List ℕ) × (done ++ rest ≡ numbers) × AllZip (IsListedUnder m fields) after done
 under_next m fields numbers left rest t returned after one steps is under w = (
   w.0 ++ t ∷ [],
   append_assoc w.0 (t ∷ []) rest ∙ ap (λ l. w.0 ++ l) (sym steps) ∙ w.1,
-  subst (λ rs. AllZip (IsUnder m fields) rs (w.0 ++ t ∷ [])) (sym is) (zip_more (IsUnder m fields) returned w.0 one t w.2 under),
+  subst (λ rs. AllZip (IsListedUnder m fields) rs (w.0 ++ t ∷ [])) (sym is) (zip_more (IsListedUnder m fields) returned w.0 one t w.2 under),
 )
 
 module _ (defs : Definitions) (id : CallableId) (m : Method) (name : List ℕ) (numbers : List ℕ) (report : CallableReport) where
-  under_returned : (at : ErrorContext) (returned : ReturnedLifetime) (t : ℕ) → IsUnder m (borrowing_leaves defs name m) returned t
+  under_returned : (at : ErrorContext) (returned : ReturnedLifetime) (t : ℕ) → IsListedUnder m (borrowing_leaves defs name m) returned t
       → IsReturned (callable_of defs id at m) returned t
   under_returned at returned t under = record {
     lifetime = under.lifetime;
@@ -107,16 +107,16 @@ module _ (defs : Definitions) (id : CallableId) (m : Method) (name : List ℕ) (
   }
 
   reported_at : (at : ErrorContext) → report.callable ≡ id → ListsNumbers numbers (lifetimes_named m.output)
-      → AllZip (IsUnder m (borrowing_leaves defs name m)) report.returned numbers → IsReported (callable_of defs id at m) report
+      → AllZip (IsListedUnder m (borrowing_leaves defs name m)) report.returned numbers → IsReported (callable_of defs id at m) report
   reported_at at called lists all = record {
     callable = called;
     numbers = numbers;
     are = lists;
-    each = zip_to (IsUnder m (borrowing_leaves defs name m)) (IsReturned (callable_of defs id at m)) (under_returned at) report.returned numbers all;
+    each = zip_to (IsListedUnder m (borrowing_leaves defs name m)) (IsReturned (callable_of defs id at m)) (under_returned at) report.returned numbers all;
   }
 
   -- what is found of the method is a report of its callable
-  pub is_reported : report.callable ≡ id → ListsNumbers numbers (lifetimes_named m.output) → AllZip (IsUnder m (borrowing_leaves defs name m)) report.returned numbers
+  pub is_reported : report.callable ≡ id → ListsNumbers numbers (lifetimes_named m.output) → AllZip (IsListedUnder m (borrowing_leaves defs name m)) report.returned numbers
       → method_at defs id ≡ Some m → (c : Callable) → callable_at defs id ≡ Some c → IsReported c report
   is_reported called lists all at c is =
       subst (λ d. IsReported d report) (sym (callable_is defs id c m is at)) (reported_at c.place called lists all)

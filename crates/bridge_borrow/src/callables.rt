@@ -2,7 +2,7 @@
 
 ghost use Rattle.std.specs.Prelude.{◌≡◌, ℕ, IfOk, IsSome, Some};
 ghost use Rattle.std.specs.List.{AllZip, Contains};
-ghost use Rattle.bridge_borrow.specs.inside.Returned.{IsUnder, KeepsLonger};
+ghost use Rattle.bridge_borrow.specs.inside.Returned.{IsListedUnder, KeepsLonger};
 ghost use Rattle.bridge_report.specs.Borrowings.{AreReported, IsReported};
 ghost use Rattle.bridge_report.specs.Callables.{Callable};
 ghost use Rattle.bridge_report.specs.InContext.{callable_at, callables, method_at};
@@ -30,7 +30,7 @@ fn returned_lifetime(
     lifetime: Lifetime,
 ) -> Result<ReturnedLifetime, NoMemory>
     requires { KeepsLonger method.now.lifetime_env params.now lifetime }
-    ensures { IfOk result (λ returned. IsUnder method.now fields.now returned lifetime) }
+    ensures { IfOk result (λ returned. IsListedUnder method.now fields.now returned lifetime) }
 {
     let Some(longer) = params.all_longer_lifetimes(lifetime) else {
         unreachable!();
@@ -52,7 +52,7 @@ fn returned_lifetimes(
 ) -> Result<Items<ReturnedLifetime>, NoMemory>
     requires { (t : ℕ) → Contains lifetimes.now.keys t
         → KeepsLonger method.now.lifetime_env params.now t }
-    ensures { IfOk result (λ returned. AllZip (IsUnder method.now fields.now) returned
+    ensures { IfOk result (λ returned. AllZip (IsListedUnder method.now fields.now) returned
         lifetimes.now.keys) }
 {
     let mut returned = Items::new(alloc);

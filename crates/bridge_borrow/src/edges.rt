@@ -2,9 +2,9 @@
 
 ghost use Rattle.std.specs.Prelude.{◌≡◌, ◌++◌, is_some, IfOk, OnOk};
 ghost use Rattle.std.specs.List.{enumerate_from, flat_map};
-ghost use Rattle.bridge_borrow.specs.inside.Edges.{argument_edges, param_edges, params_edges, receiver_edges, struct_edges, whole_edges};
-ghost use Rattle.bridge_report.specs.Borrowings.{input_edges, whole_kind};
-ghost use Rattle.bridge_report.specs.InContext.{method_inputs};
+ghost use Rattle.bridge_borrow.specs.inside.Edges.{argument_edges, param_edges, params_edges, receiver_edges, edges_of_struct, edges_of_whole};
+ghost use Rattle.bridge_report.specs.Borrowings.{edges_of_input, kind_of_whole};
+ghost use Rattle.bridge_report.specs.InContext.{callable_inputs};
 ghost use Rattle.hir_borrowing_params.specs.Edges.{is_in};
 ghost use Rattle.hir_mentions.specs.Mentions.{where_any};
 ghost use Rattle.hir_parts.specs.Parts.{carried_by};
@@ -19,8 +19,8 @@ use std::alloc::Global;
 use std::collections::BTreeSet;
 
 /// What is held of an input that is a slice or isn't, and is no struct.
-fn whole_kind(is_slice: bool) -> ReportEdgeKind
-    ensures { result ≡ whole_kind is_slice }
+fn kind_of_whole(is_slice: bool) -> ReportEdgeKind
+    ensures { result ≡ kind_of_whole is_slice }
 {
     if is_slice {
         ReportEdgeKind::Slice
@@ -40,12 +40,12 @@ fn push_carrier_edge(
     given: &[MaybeStatic<Lifetime>],
 ) -> Result<(), NoMemory>
     ensures { OnOk result (edges.new ≡ edges.old
-        ++ whole_edges input.now (is_in longer.now) is_slice (carried_by own element given.now)) }
+        ++ edges_of_whole input.now (is_in longer.now) is_slice (carried_by own element given.now)) }
 {
     if carried_outlives(longer, own, element, given) {
         edges.push(ReportEdge {
             input: *input,
-            kind: whole_kind(is_slice),
+            kind: kind_of_whole(is_slice),
         })?;
     }
     Ok(())
@@ -81,7 +81,7 @@ fn push_struct_edges(
     args: &[MaybeStatic<Lifetime>],
 ) -> Result<(), NoMemory>
     ensures { OnOk result (edges.new ≡ edges.old
-        ++ struct_edges input.now (is_in longer.now) optional 0 args.now) }
+        ++ edges_of_struct input.now (is_in longer.now) optional 0 args.now) }
 {
     for (number, argument) in args.iter().enumerate() {
         push_argument_edge(edges, longer, input, optional, number, argument)?;
@@ -152,8 +152,8 @@ pub(crate) fn held_edges(
     longer: &BTreeSet<Lifetime>,
 ) -> Result<Items<ReportEdge>, NoMemory>
     ensures { IfOk result (λ edges. edges
-        ≡ flat_map (input_edges (is_some method.now.param_self) (is_in longer.now))
-        (enumerate_from 0 (method_inputs method.now))) }
+        ≡ flat_map (edges_of_input (is_some method.now.param_self) (is_in longer.now))
+        (enumerate_from 0 (callable_inputs method.now))) }
 {
     let mut edges = Items::new(alloc);
     push_receiver_edges(&mut edges, longer, &method.param_self)?;

@@ -11,7 +11,7 @@ use Rattle.bridge_decl.specs.declared.modules.Item.{Item}
 use Rattle.bridge_decl.specs.declared.modules.Item.TheVariants as item
 use Rattle.bridge_decl.specs.declared.modules.Module.{Module}
 use Rattle.bridge_report.specs.Callables.{Callable, CallableInput}
-use Rattle.bridge_report.specs.InContext.{callable_of, method_inputs as callable_inputs, outline, param_input, receiver_input as own_callable_input, receiver_name, type_callable}
+use Rattle.bridge_report.specs.InContext.{callable_of, callable_inputs, outline, param_input, receiver_input, receiver_name, type_callable}
 use Rattle.bridge_report.specs.declared.report.CallableId.{CallableId}
 use Rattle.bridge_report.specs.declared.report.CallableId.TheVariants as callable
 use Rattle.hir_attrs.specs.declared.attrs.Attrs.{Attrs}
@@ -35,7 +35,7 @@ use Rattle.hir_skeleton.specs.Leaves.{DeepLeaf}
 use Rattle.hir_skeleton.specs.NamedLeaves.{borrowing_leaves, leaf_named}
 use Rattle.hir_skeleton.specs.Skeletons.{Skeleton, Nothing, Carrier, Struct}
 use Rattle.hir_readings.specs.Declared.{declared_fields, found_function, method_signature}
-use Rattle.hir_readings.specs.Inputs.{Input, input_known_as, lowered_input, lowered_inputs, numbered_inputs, receiver_input}
+use Rattle.hir_readings.specs.Inputs.{Input, input_known_as, lowered_input, lowered_inputs, numbered_inputs, lowered_receiver}
 use Rattle.hir_readings.specs.Knowing.{id_there, known_as}
 use Rattle.hir_readings.specs.Readings.{IsFunctionRead, IsReadAsDeclared, IsReadLike}
 use Rattle.hir_readings.proofs.AgreeLemmas.{input_skeletons}
@@ -92,10 +92,10 @@ param_inputs : (params : List Param) → map param_input params ≡ map named_in
 param_inputs [] = refl
 param_inputs (param ∷ params) = ap (λ rest. param_input param ∷ rest) (param_inputs params)
 
-own_inputs : (o : Option ParamSelf) (params : List Param) → where_any (λ receiver. own_callable_input receiver.ty ∷ []) o ++ map param_input params
-    ≡ map named_input (zip (where_any (λ receiver. receiver_name ∷ []) o ++ map (λ param. param.name) params) (where_any (λ receiver. receiver_input receiver.ty ∷ []) o ++ map (λ param. lowered_input param.ty) params))
+own_inputs : (o : Option ParamSelf) (params : List Param) → where_any (λ receiver. receiver_input receiver.ty ∷ []) o ++ map param_input params
+    ≡ map named_input (zip (where_any (λ receiver. receiver_name ∷ []) o ++ map (λ param. param.name) params) (where_any (λ receiver. lowered_receiver receiver.ty ∷ []) o ++ map (λ param. lowered_input param.ty) params))
 own_inputs None params = param_inputs params
-own_inputs (Some receiver) params = ap (λ rest. own_callable_input receiver.ty ∷ rest) (param_inputs params)
+own_inputs (Some receiver) params = ap (λ rest. receiver_input receiver.ty ∷ rest) (param_inputs params)
 
 module _ (it : Interface) (defs : Definitions)
     (fields_agree : (place : ItemPlace) → fields_in defs (id_there it.catalog place) ≡ map (known_as (id_there it.catalog)) (declared_fields it place))

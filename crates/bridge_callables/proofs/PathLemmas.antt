@@ -12,16 +12,16 @@ use Rattle.hir_skeleton.specs.Inputs.{field_names, fields_in, input_names, input
 use Rattle.hir_skeleton.specs.Skeletons.{Skeleton, Nothing, Carrier, Struct}
 use Rattle.hir_readings.specs.Declared.{declared_fields}
 use Rattle.hir_readings.specs.Knowing.{id_there, known_as}
-use Rattle.bridge_callables.specs.Names.{declared_field_names, declared_names_inside, declared_path_names, name_of}
+use Rattle.bridge_callables.specs.Names.{declared_field_names, declared_names_inside, declared_path_names, name_of_number}
 use Rattle.bridge_callables.proofs.FieldNames.{names_in}
 
 -- the name of a field by its number
-one_name : {F : Type 0} (name : F → List ℕ) (fields : List F) (i : ℕ) → where_any (λ field. name field ∷ []) (slice_get fields i) ≡ name_of (map name fields) i
+one_name : {F : Type 0} (name : F → List ℕ) (fields : List F) (i : ℕ) → where_any (λ field. name field ∷ []) (slice_get fields i) ≡ name_of_number (map name fields) i
 one_name name [] i = refl
 one_name name (field ∷ fields) zero = refl
 one_name name (field ∷ fields) (suc i) = one_name name fields i
 
-field_name : (o : Option InputStruct) (i : ℕ) → where_any (λ def. where_any (λ field. field.name ∷ []) (slice_get def.fields i)) o ≡ name_of (where_any names_in o) i
+field_name : (o : Option InputStruct) (i : ℕ) → where_any (λ def. where_any (λ field. field.name ∷ []) (slice_get def.fields i)) o ≡ name_of_number (where_any names_in o) i
 field_name None i = refl
 field_name (Some def) i = one_name (λ field. field.name) def.fields i
 
@@ -45,8 +45,8 @@ module _ (it : Interface) (defs : Definitions)
     inside_same (i ∷ rest) (Carrier lifetimes) = refl
     inside_same (i ∷ rest) (Struct place args) =
         let inner = where_any (field_names defs rest) (slice_get (fields_in defs (id_there it.catalog place)) i) in
-        ap (λ name. name ++ inner) (field_name (input_struct defs (id_there it.catalog place)) i ∙ ap (λ names. name_of names i) (names_agree place))
-        ∙ ap (λ more. name_of (declared_field_names it place) i ++ more)
+        ap (λ name. name ++ inner) (field_name (input_struct defs (id_there it.catalog place)) i ∙ ap (λ names. name_of_number names i) (names_agree place))
+        ∙ ap (λ more. name_of_number (declared_field_names it place) i ++ more)
         (ap (λ fields. where_any (field_names defs rest) (slice_get fields i)) (fields_agree place) ∙ known_at known (field_names defs rest) (declared_names_inside it rest) (inside_same rest) (declared_fields it place) i)
 
     -- where the inputs of a method are these, with these names
@@ -54,6 +54,6 @@ module _ (it : Interface) (defs : Definitions)
         → (path : List ℕ) → path_names defs self_name m path ≡ declared_path_names it names inputs path
     path_same self_name m names inputs names_are inputs_are [] = refl
     path_same self_name m names inputs names_are inputs_are (i ∷ rest) =
-        ap (λ all. name_of all i ++ where_any (field_names defs rest) (slice_get (method_inputs m) i)) names_are
-        ∙ ap (λ all. name_of names i ++ where_any (field_names defs rest) (slice_get all i)) inputs_are
-        ∙ ap (λ more. name_of names i ++ more) (known_at known (field_names defs rest) (declared_names_inside it rest) (inside_same rest) inputs i)
+        ap (λ all. name_of_number all i ++ where_any (field_names defs rest) (slice_get (method_inputs m) i)) names_are
+        ∙ ap (λ all. name_of_number names i ++ where_any (field_names defs rest) (slice_get all i)) inputs_are
+        ∙ ap (λ more. name_of_number names i ++ more) (known_at known (field_names defs rest) (declared_names_inside it rest) (inside_same rest) inputs i)

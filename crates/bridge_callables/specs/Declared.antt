@@ -81,24 +81,24 @@ method_callable it id place numbered =
     numbered.1.self_param (without_writer numbered.1.params) (method_signature (it.names place.«module») numbered.1)
 
 -- the methods of the type at a place, by its number
-abbrev pub type_callables : Interface → (ℕ → TypeId) → ℕ × ItemPlace → List Callable
-type_callables it id numbered = flat_map (method_callable it (id numbered.0) numbered.1) (enumerate_from 0 (declared_methods it numbered.1))
+abbrev pub type_callables_at : Interface → (ℕ → TypeId) → ℕ × ItemPlace → List Callable
+type_callables_at it id numbered = flat_map (method_callable it (id numbered.0) numbered.1) (enumerate_from 0 (declared_methods it numbered.1))
 
 -- those of all types of a kind
 abbrev pub kind_callables : Interface → Kind → (ℕ → TypeId) → List Callable
-kind_callables it k id = flat_map (type_callables it id) (enumerate_from 0 (places_of it.modules k))
+kind_callables it k id = flat_map (type_callables_at it id) (enumerate_from 0 (places_of it.modules k))
 
 -- ---- functions
 
 -- a function, by its number, in that module: one that is disabled is none
-abbrev pub function_callable : Interface → ℕ → ItemPlace → Module → Function → List Callable
-function_callable it number place owner declared =
+abbrev pub function_callable_in : Interface → ℕ → ItemPlace → Module → Function → List Callable
+function_callable_in it number place owner declared =
     if (item_marks it.backend (module_marks it.backend it.modules owner) declared.attrs).disable then []
     else numbered_callable it (callable.Function number) (at_place (path_of_place it.modules place) declared.name None)
     None (without_writer declared.params) (function_signature (it.names place.«module») declared)
 
 abbrev pub found_function_callable : Interface → ℕ → ItemPlace → Module × Item → List Callable
-found_function_callable it number place (owner, item.Function declared) = function_callable it number place owner declared
+found_function_callable it number place (owner, item.Function declared) = function_callable_in it number place owner declared
 found_function_callable it number place (owner, item.Struct declared) = []
 found_function_callable it number place (owner, item.Opaque declared) = []
 found_function_callable it number place (owner, item.Enum declared) = []

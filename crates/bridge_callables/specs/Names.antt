@@ -44,8 +44,8 @@ declared_field_names it place = where_any (found_field_names it) (found_at it.mo
 -- ---- paths
 
 -- the name of that number, where there is one
-abbrev pub name_of : List (List ℕ) → ℕ → List (List ℕ)
-name_of names i = where_any (λ name. name ∷ []) (slice_get names i)
+abbrev pub name_of_number : List (List ℕ) → ℕ → List (List ℕ)
+name_of_number names i = where_any (λ name. name ∷ []) (slice_get names i)
 
 -- the names along a path from inside an input, as far as it leads
 abbrev pub declared_names_inside : Interface → List ℕ → Skeleton ItemPlace → List (List ℕ)
@@ -53,10 +53,10 @@ declared_names_inside it [] s = []
 declared_names_inside it (i ∷ rest) Nothing = []
 declared_names_inside it (i ∷ rest) (Carrier lifetimes) = []
 declared_names_inside it (i ∷ rest) (StructWith place args) =
-    name_of (declared_field_names it place) i ++ where_any (declared_names_inside it rest) (slice_get (declared_fields it place) i)
+    name_of_number (declared_field_names it place) i ++ where_any (declared_names_inside it rest) (slice_get (declared_fields it place) i)
 
 -- the names along a path that begins with the number of an input, where inputs have these names
 abbrev pub declared_path_names : Interface → List (List ℕ) → List (Skeleton ItemPlace) → List ℕ → List (List ℕ)
 declared_path_names it names inputs [] = []
 declared_path_names it names inputs (i ∷ rest) =
-    name_of names i ++ where_any (declared_names_inside it rest) (slice_get inputs i)
+    name_of_number names i ++ where_any (declared_names_inside it rest) (slice_get inputs i)

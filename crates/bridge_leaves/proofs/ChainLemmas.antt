@@ -8,7 +8,7 @@ use Rattle.std.proofs.lemmas.List.{length-map}
 use Rattle.std.proofs.lemmas.List.Elements.{Contains-append_cases, Contains-append_left, Contains-append_right}
 use Rattle.std.proofs.lemmas.Option.{get_or_from_slice_get, slice_get-map}
 use Rattle.std.specs.Coded.{le_prop}
-use Rattle.bridge_leaves.specs.inside.Counting.{most_counted, number_of, struct_here, structs_among}
+use Rattle.bridge_leaves.specs.inside.Counting.{most_counted, struct_number_below, struct_here, structs_among}
 use Rattle.bridge_leaves.specs.inside.Totals.{AreCounts}
 use Rattle.bridge_leaves.proofs.CountLemmas.{count, counted_at, graph, own, row_of}
 use Rattle.definition_graph.specs.Reaching.{ChainLeads, Edge, IsGraph, ReachesByEdges, successors}
@@ -126,7 +126,7 @@ one_here : (b : Bool) (n m : ℕ) → Contains (cond b (n ∷ []) []) m → (b �
 one_here true n m h = (refl, elim (member_cases n m [] h) [ inl is ↦ is | inr none ↦ absurd (none_in_nothing m none) ])
 one_here false n m h = absurd (none_in_nothing m h)
 
-numbered_here : (count : ℕ) (id : TypeId) (m : ℕ) → Contains (number_of count id) m → (id ≡ type.Struct m) × (m < count)
+numbered_here : (count : ℕ) (id : TypeId) (m : ℕ) → Contains (struct_number_below count id) m → (id ≡ type.Struct m) × (m < count)
 numbered_here count (type.Struct n) m h =
     let one = one_here (nat_lt n count) n m h in
     let within = ltb-true n count one.0 in

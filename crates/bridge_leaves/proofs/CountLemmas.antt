@@ -6,7 +6,7 @@ use Rattle.std.proofs.lemmas.Bool.{lt-ltb, ltb-true}
 use Rattle.std.proofs.lemmas.List.{length-append, length-map}
 use Rattle.std.proofs.lemmas.List.Sums.{sum_by-append, sum_by-cons}
 use Rattle.std.proofs.lemmas.Option.{get_or_from_slice_get, slice_get-map, slice_get_within}
-use Rattle.bridge_leaves.specs.inside.Counting.{all_own, graph_of, leaves_here, number_of, own_leaves, struct_here, structs_among}
+use Rattle.bridge_leaves.specs.inside.Counting.{all_own, graph_of, leaves_here, struct_number_below, own_leaves, struct_here, structs_among}
 use Rattle.definition_graph.specs.Reaching.{successors}
 use Rattle.definition_graph.specs.Totals.{held_within}
 use Rattle.hir_context.specs.Lookups.{InputStruct}
@@ -93,7 +93,7 @@ module _ (defs : Definitions) where
   count_number levels claim m args false is = none_without levels (type.Struct m) args (past m (slice_get defs.structs.defs m) refl is)
 
   count_id : (levels : ℕ) → CountedAt levels → (id : TypeId) (args : List (MaybeStatic ℕ))
-      → length (leaves levels id args) ≡ sum_by (held_within graph own levels) (number_of count id)
+      → length (leaves levels id args) ≡ sum_by (held_within graph own levels) (struct_number_below count id)
   count_id levels claim (type.Struct m) args = count_number levels claim m args (nat_lt m count) refl
   count_id levels claim (type.OutStruct m) args = none_without levels (type.OutStruct m) args refl
   count_id levels claim (type.Opaque m) args = none_without levels (type.Opaque m) args refl

@@ -9,15 +9,15 @@ use Rattle.hir_definitions.specs.declared.methods.Param.{Param}
 use Rattle.hir_definitions.specs.declared.methods.ParamSelf.{ParamSelf}
 use Rattle.hir_mentions.specs.Mentions.{where_any}
 use Rattle.hir_skeleton.specs.Edges.{ShallowEdge, Whole, Position, shallow_edges}
-use Rattle.bridge_report.specs.Borrowings.{edge_kind, input_edges, input_place}
+use Rattle.bridge_report.specs.Borrowings.{edge_kind, edges_of_input, input_place}
 use Rattle.bridge_report.specs.Callables.{CallableInput}
-use Rattle.bridge_report.specs.InContext.{method_inputs, param_input, receiver_input}
+use Rattle.bridge_report.specs.InContext.{callable_inputs, param_input, receiver_input}
 use Rattle.bridge_report.specs.Page.{edge_text, edge_texts}
 use Rattle.bridge_report.specs.declared.report.InputPlace.{InputPlace}
 use Rattle.bridge_report.specs.declared.report.ReportEdge.{ReportEdge}
-use Rattle.bridge_page.specs.inside.Printed.{kind_text, place_name, report_edge_text}
+use Rattle.bridge_page.specs.inside.Printed.{edge_kind_text, place_name, report_edge_text}
 
-kind_told : (name : List ℕ) (slice : Bool) (edge : ShallowEdge (Unit {0})) → kind_text name (edge_kind slice edge) ≡ edge_text name slice edge
+kind_told : (name : List ℕ) (slice : Bool) (edge : ShallowEdge (Unit {0})) → edge_kind_text name (edge_kind slice edge) ≡ edge_text name slice edge
 kind_told name true Whole = refl
 kind_told name false Whole = refl
 kind_told name slice (Position key d optional) = refl
@@ -53,19 +53,19 @@ module _ (m : Method) where
       → map (report_edge_text m) (map (edge_of place slice) edges) ≡ map (edge_text name slice) edges
   one_told place name slice [] is = refl
   one_told place name slice (edge ∷ edges) is =
-      ap (λ text. text ∷ map (report_edge_text m) (map (edge_of place slice) edges)) (ap (λ name. kind_text name (edge_kind slice edge)) is ∙ kind_told name slice edge)
+      ap (λ text. text ∷ map (report_edge_text m) (map (edge_of place slice) edges)) (ap (λ name. edge_kind_text name (edge_kind slice edge)) is ∙ kind_told name slice edge)
       ∙ ap (λ texts. edge_text name slice edge ∷ texts) (one_told place name slice edges is)
 
   each_told : (receiver : Bool) (test : ℕ → Bool) (k : ℕ) (inputs : List CallableInput) → Named (λ n. place_name m.params (input_place receiver n)) k inputs
-      → map (report_edge_text m) (flat_map (input_edges receiver test) (enumerate_from k inputs)) ≡ flat_map (edge_texts test) inputs
+      → map (report_edge_text m) (flat_map (edges_of_input receiver test) (enumerate_from k inputs)) ≡ flat_map (edge_texts test) inputs
   each_told receiver test k [] all = refl
   each_told receiver test k (input ∷ inputs) all =
-      map-append (report_edge_text m) (input_edges receiver test (k, input)) (flat_map (input_edges receiver test) (enumerate_from (k + 1) inputs))
-      ∙ ap (λ texts. texts ++ map (report_edge_text m) (flat_map (input_edges receiver test) (enumerate_from (k + 1) inputs)))
+      map-append (report_edge_text m) (edges_of_input receiver test (k, input)) (flat_map (edges_of_input receiver test) (enumerate_from (k + 1) inputs))
+      ∙ ap (λ texts. texts ++ map (report_edge_text m) (flat_map (edges_of_input receiver test) (enumerate_from (k + 1) inputs)))
       (one_told (input_place receiver k) input.name input.slice (shallow_edges test input.optional input.skeleton) all.0)
       ∙ ap (λ texts. edge_texts test input ++ texts) (each_told receiver test (k + 1) inputs all.1)
 
   -- the edges that are held
   pub edges_told : (test : ℕ → Bool)
-      → map (report_edge_text m) (flat_map (input_edges (is_some m.param_self) test) (enumerate_from 0 (method_inputs m))) ≡ flat_map (edge_texts test) (method_inputs m)
-  edges_told test = each_told (is_some m.param_self) test 0 (method_inputs m) (inputs_named m.param_self m.params)
+      → map (report_edge_text m) (flat_map (edges_of_input (is_some m.param_self) test) (enumerate_from 0 (callable_inputs m))) ≡ flat_map (edge_texts test) (callable_inputs m)
+  edges_told test = each_told (is_some m.param_self) test 0 (callable_inputs m) (inputs_named m.param_self m.params)

@@ -18,7 +18,7 @@ use Rattle.hir_skeleton.specs.Skeletons.{Skeleton}
 use Rattle.bridge_report.specs.Borrowings.{input_place, leaf_path}
 use Rattle.bridge_report.specs.InContext.{receiver_name}
 use Rattle.bridge_report.specs.Page.{leaf_text}
-use Rattle.bridge_page.specs.inside.Printed.{dotted, path_text, place_name, place_skeleton}
+use Rattle.bridge_page.specs.inside.Printed.{dotted, leaf_path_text, place_name, place_skeleton}
 
 -- ---- names along paths
 
@@ -69,15 +69,15 @@ begin_each of_field n (field ∷ fields) = begin_in n (of_field field) _ (begin_
 
 module _ (defs : Definitions) (m : Method) where
   abbrev printed_leaf : NamedLeaf → List ℕ
-  printed_leaf leaf = path_text defs m (leaf_path (is_some m.param_self) leaf.path)
+  printed_leaf leaf = leaf_path_text defs m (leaf_path (is_some m.param_self) leaf.path)
 
   abbrev named : DeepLeaf → NamedLeaf
   named leaf = leaf_named (path_names defs receiver_name m) leaf
 
   path_told : (path : List ℕ) (n : ℕ) (rest : List ℕ) → path ≡ n ∷ rest
-      → path_text defs m (leaf_path (is_some m.param_self) path) ≡ join_by (λ name. name) (codes ".") (path_names defs receiver_name m path)
+      → leaf_path_text defs m (leaf_path (is_some m.param_self) path) ≡ join_by (λ name. name) (codes ".") (path_names defs receiver_name m path)
   path_told path n rest is =
-      ap (λ path. path_text defs m (leaf_path (is_some m.param_self) path)) is ∙ input_named (field_names defs rest) m.param_self m.params n
+      ap (λ path. leaf_path_text defs m (leaf_path (is_some m.param_self) path)) is ∙ input_named (field_names defs rest) m.param_self m.params n
       ∙ sym (ap (λ path. join_by (λ name. name) (codes ".") (path_names defs receiver_name m path)) is)
 
   -- one leaf, where it passes, before others

@@ -1,5 +1,4 @@
 mod TextLemmas
-mod SegmentLemmas
 mod WalkLemmas
 mod InputLemmas
 mod EdgeLemmas

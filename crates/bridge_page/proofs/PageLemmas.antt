@@ -22,7 +22,7 @@ use Rattle.bridge_report.specs.declared.report.ReturnedLifetime.{ReturnedLifetim
 use Rattle.bridge_report.specs.inside.Ids.{ids_of, type_ids}
 use Rattle.bridge_report.proofs.Gathered.{gathered_give}
 use Rattle.bridge_report.proofs.There.{callable_made}
-use Rattle.bridge_page.specs.inside.Printed.{callable_line, callable_text, end_line, path_text, printed_page, report_edge_text, report_edges_line, returned_text}
+use Rattle.bridge_page.specs.inside.Printed.{callable_line, callable_text, end_line, leaf_path_text, printed_page, report_edge_text, report_edges_line, returned_text}
 use Rattle.bridge_page.proofs.EdgeLemmas.{edges_told}
 use Rattle.bridge_page.proofs.InputLemmas.{leaves_told}
 use Rattle.bridge_page.proofs.TextLemmas.{list_map}
@@ -75,12 +75,12 @@ module _ (defs : Definitions) where
     made = callable_of defs id place m
 
     leaf_list : (returned : ReturnedLifetime) (test : ℕ → Bool) → returned.leaves ≡ map (λ leaf. leaf_path made.receiver leaf.path) (listed_leaves made test)
-        → list_text (path_text defs m) returned.leaves ≡ list_text leaf_text (listed_leaves made test)
+        → list_text (leaf_path_text defs m) returned.leaves ≡ list_text leaf_text (listed_leaves made test)
     leaf_list returned test is =
         let leaves = listed_leaves made test in
         let paths = map (λ (leaf : NamedLeaf). leaf_path made.receiver leaf.path) leaves in
-        ap (list_text (path_text defs m)) is ∙ list_map (path_text defs m) paths
-        ∙ ap (list_text (λ text. text)) (map_twice (path_text defs m) (λ (leaf : NamedLeaf). leaf_path made.receiver leaf.path) leaves ∙ leaves_told defs m (passes test))
+        ap (list_text (leaf_path_text defs m)) is ∙ list_map (leaf_path_text defs m) paths
+        ∙ ap (list_text (λ text. text)) (map_twice (leaf_path_text defs m) (λ (leaf : NamedLeaf). leaf_path made.receiver leaf.path) leaves ∙ leaves_told defs m (passes test))
         ∙ sym (list_map leaf_text leaves)
 
     edge_list : (returned : ReturnedLifetime) (test : ℕ → Bool) → returned.edges ≡ held_edges made test
@@ -92,7 +92,7 @@ module _ (defs : Definitions) where
     returned_made returned t r = record {
       test = r.test;
       tells = r.tells;
-      is = ap (λ l. first_line m.lifetime_env l (list_text (path_text defs m) returned.leaves) ++ report_edges_line m returned) r.lifetime
+      is = ap (λ l. first_line m.lifetime_env l (list_text (leaf_path_text defs m) returned.leaves) ++ report_edges_line m returned) r.lifetime
           ∙ ap (λ text. first_line m.lifetime_env t text ++ report_edges_line m returned) (leaf_list returned r.test r.leaves)
           ∙ ap (λ text. leaves_line made t r.test ++ (codes "  edges:" ++ text ++ codes "\n")) (edge_list returned r.test r.edges);
     }

@@ -14,12 +14,6 @@ use Rattle.bridge_report.specs.Callables.{Callable}
 use Rattle.bridge_report.specs.Page.{list_text, opening}
 use Rattle.bridge_page.specs.inside.Printed.{callable_line}
 
--- one more element of a list
-pub one_more : {A B : Type 0} (f : B → List A) (xs : List B) (i : ℕ) (x : B) → i < length xs → x ≡ get_or xs i x
-    → flat_map f (take i xs) ++ f x ≡ flat_map f (take (i + 1) xs)
-one_more f xs i x within is =
-    flat_map_more f [] (take i xs) x ∙ ap (λ y. flat_map f (take i xs ++ y ∷ [])) is ∙ sym (ap (flat_map f) (take_more xs i x within))
-
 -- a list that is lent
 pub listed_same : {A : Type 0} (f : A → List ℕ) (xs ys : List A) (is_empty : Bool) → is_empty ≡ (length xs == 0) → xs ≡ ys
     → opening is_empty ++ join_by f (codes ", ") xs ≡ list_text f ys

@@ -8,7 +8,7 @@ use Rattle.bridge_outside.specs.Outside.{SinkState}
 use Rattle.bridge_outside.specs.Printing.{Printing, Prints}
 use Rattle.bridge_outside.proofs.PrintingLaws.{◌⨟◌, prints_nothing, prints_same}
 use Rattle.bridge_page.specs.inside.Printed.{dotted}
-use Rattle.bridge_page.specs.inside.Walked.{field_struct_id, name_of_field, names_from, struct_at, struct_id}
+use Rattle.bridge_page.specs.inside.Walked.{field_struct_id, name_of_field, names_from, struct_at, number_of_struct}
 use Rattle.hir_context.specs.Lookups.{InputStruct}
 use Rattle.hir_context.specs.declared.parts.Definitions.{Definitions}
 use Rattle.hir_definitions.specs.declared.definitions.StructField.{StructField}
@@ -35,10 +35,10 @@ field_text def i name is = sym (append-nil (codes "." ++ name)) ∙ ap dotted is
 
 -- the fields of a struct that isn't disabled, as skeletons
 fields_on : (def : InputStruct) (i : ℕ) → def.attrs.disable ≡ false
-    → field_struct_id i def ≡ option_and_then struct_id (option_map (λ field. field_skeleton field.ty) (slice_get def.fields i))
+    → field_struct_id i def ≡ option_and_then number_of_struct (option_map (λ field. field_skeleton field.ty) (slice_get def.fields i))
 fields_on def i on =
-    ap (λ b. option_and_then struct_id (slice_get (cond b [] (map (λ field. field_skeleton field.ty) def.fields)) i)) on
-    ∙ ap (option_and_then struct_id) (slice_get-map (λ field. field_skeleton field.ty) def.fields i)
+    ap (λ b. option_and_then number_of_struct (slice_get (cond b [] (map (λ field. field_skeleton field.ty) def.fields)) i)) on
+    ∙ ap (option_and_then number_of_struct) (slice_get-map (λ field. field_skeleton field.ty) def.fields i)
 
 -- ---- names
 
@@ -48,19 +48,19 @@ module _ (defs : Definitions) where
   nowhere (i ∷ rest) = nowhere rest
 
   -- a path goes on from a field, if that is a struct
-  goes_on : (rest : List ℕ) → ((s : Skeleton TypeId) → field_names defs rest s ≡ names_from defs rest (struct_id s))
-      → (field : Option (Skeleton TypeId)) → where_any (field_names defs rest) field ≡ names_from defs rest (option_and_then struct_id field)
+  goes_on : (rest : List ℕ) → ((s : Skeleton TypeId) → field_names defs rest s ≡ names_from defs rest (number_of_struct s))
+      → (field : Option (Skeleton TypeId)) → where_any (field_names defs rest) field ≡ names_from defs rest (option_and_then number_of_struct field)
   goes_on rest each None = sym (nowhere rest)
   goes_on rest each (Some s) = each s
 
-  in_struct : (i : ℕ) (rest : List ℕ) → ((s : Skeleton TypeId) → field_names defs rest s ≡ names_from defs rest (struct_id s)) → (def : Option InputStruct)
+  in_struct : (i : ℕ) (rest : List ℕ) → ((s : Skeleton TypeId) → field_names defs rest s ≡ names_from defs rest (number_of_struct s)) → (def : Option InputStruct)
       → where_any (name_of_field i) def ++ where_any (field_names defs rest) (slice_get (where_any input_fields def) i)
       ≡ where_any (name_of_field i) def ++ names_from defs rest (option_and_then (field_struct_id i) def)
   in_struct i rest each None = sym (nowhere rest)
   in_struct i rest each (Some def) = ap (λ names. name_of_field i def ++ names) (goes_on rest each (slice_get (input_fields def) i))
 
   -- only the struct counts from which a path begins
-  names_walked : (fields : List ℕ) (s : Skeleton TypeId) → field_names defs fields s ≡ names_from defs fields (struct_id s)
+  names_walked : (fields : List ℕ) (s : Skeleton TypeId) → field_names defs fields s ≡ names_from defs fields (number_of_struct s)
   names_walked [] s = refl
   names_walked (i ∷ rest) Nothing = sym (nowhere rest)
   names_walked (i ∷ rest) (Carrier lifetimes) = sym (nowhere rest)
@@ -71,7 +71,7 @@ module _ (defs : Definitions) where
 
   -- the names of fields from an input on
   pub fields_walked : (fields : List ℕ) (inside : Option (Skeleton TypeId))
-      → dotted (names_from defs fields (option_and_then struct_id inside)) ≡ dotted (where_any (field_names defs fields) inside)
+      → dotted (names_from defs fields (option_and_then number_of_struct inside)) ≡ dotted (where_any (field_names defs fields) inside)
   fields_walked fields inside = ap dotted (sym (goes_on fields (names_walked fields) inside))
 
 -- ---- the walk
@@ -114,5 +114,5 @@ module _ {old : SinkState} {out : Printing} (defs : Definitions) (start : Option
 
 -- the struct that a field is
 pub field_leads : (def : InputStruct) (i : ℕ) (field : Option (Skeleton TypeId)) (found : Option ℕ) → def.attrs.disable ≡ false
-    → field ≡ option_map (λ f. field_skeleton f.ty) (slice_get def.fields i) → found ≡ option_and_then struct_id field → found ≡ field_struct_id i def
-field_leads def i field found on at is = is ∙ ap (option_and_then struct_id) at ∙ sym (fields_on def i on)
+    → field ≡ option_map (λ f. field_skeleton f.ty) (slice_get def.fields i) → found ≡ option_and_then number_of_struct field → found ≡ field_struct_id i def
+field_leads def i field found on at is = is ∙ ap (option_and_then number_of_struct) at ∙ sym (fields_on def i on)

@@ -1,4 +1,3 @@
 -- What the calls tell one another.
 pub mod Printed
-pub mod Segments
 pub mod Walked

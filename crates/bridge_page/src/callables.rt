@@ -10,8 +10,8 @@ ghost use Rattle.bridge_report.specs.InContext.{callable_at, callables};
 ghost use Rattle.hir_mentions.specs.Mentions.{where_any};
 
 use crate::lines::put_all_returned;
-use crate::places::put_place;
 use bridge_outside::{Printer, Sink, SinkFault, finish, put_number, put_text};
+use bridge_printing::put_place;
 use bridge_report::{CallableReport, method_of, place_of};
 use hir_context::TypeContext;
 use hir_ids::TypeId;
@@ -27,8 +27,9 @@ fn put_callable_line<K: Sink>(
     ensures { Prints (K.state sink.old) out.old (K.state sink.new) out.new
         (where_any callable_line (callable_at tcx.now.definitions report.now.callable)) }
 {
+    let place = place_of(tcx, report.callable);
     put_text(sink, out, "callable ");
-    put_place(sink, out, &place_of(tcx, report.callable));
+    put_place(sink, out, place.module, place.item, place.method);
     put_text(sink, out, "\n");
 }
 

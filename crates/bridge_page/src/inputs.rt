@@ -3,7 +3,7 @@
 ghost use Rattle.std.specs.Prelude.{◌≡◌, option_and_then};
 ghost use Rattle.bridge_outside.specs.Printing.{Prints};
 ghost use Rattle.bridge_page.specs.inside.Printed.{input_at, input_name};
-ghost use Rattle.bridge_page.specs.inside.Walked.{struct_id};
+ghost use Rattle.bridge_page.specs.inside.Walked.{number_of_struct};
 ghost use Rattle.bridge_report.specs.declared.report.InputPlace.TheVariants as input;
 ghost use Rattle.hir_parts.specs.Parts.{input_skeleton};
 ghost use Rattle.hir_skeleton.specs.Lowered.{receiver_skeleton};
@@ -37,7 +37,7 @@ pub(crate) fn put_input<K: Sink>(
 
 /// The struct of which this is the part, where it is one.
 pub(crate) fn struct_of(part: &InputPart<'_>) -> Option<StructId>
-    ensures { result ≡ struct_id (input_skeleton part.now) }
+    ensures { result ≡ number_of_struct (input_skeleton part.now) }
 {
     match part {
         InputPart::Struct(id, _) => Some(*id),
@@ -47,7 +47,7 @@ pub(crate) fn struct_of(part: &InputPart<'_>) -> Option<StructId>
 
 /// The struct that a receiver of this type is.
 fn self_struct(ty: &SelfType) -> Option<StructId>
-    ensures { result ≡ struct_id (receiver_skeleton ty.now) }
+    ensures { result ≡ number_of_struct (receiver_skeleton ty.now) }
 {
     match ty {
         SelfType::Struct(path) => Some(path.tcx_id),
@@ -57,7 +57,7 @@ fn self_struct(ty: &SelfType) -> Option<StructId>
 
 /// The struct that the receiver is.
 fn receiver_struct(method: &Method) -> Option<StructId>
-    ensures { result ≡ option_and_then struct_id (input_at method.now input.Receiver) }
+    ensures { result ≡ option_and_then number_of_struct (input_at method.now input.Receiver) }
 {
     match &method.param_self {
         Some(receiver) => self_struct(&receiver.ty),
@@ -67,7 +67,7 @@ fn receiver_struct(method: &Method) -> Option<StructId>
 
 /// The struct that the parameter of this number is.
 fn param_struct(method: &Method, number: usize) -> Option<StructId>
-    ensures { result ≡ option_and_then struct_id (input_at method.now (input.Param number)) }
+    ensures { result ≡ option_and_then number_of_struct (input_at method.now (input.Param number)) }
 {
     match method.params.get(number) {
         Some(param) => struct_of(&input_part(&param.ty)),
@@ -77,7 +77,7 @@ fn param_struct(method: &Method, number: usize) -> Option<StructId>
 
 /// The struct that an input is.
 pub(crate) fn input_struct(method: &Method, input: InputPlace) -> Option<StructId>
-    ensures { result ≡ option_and_then struct_id (input_at method.now input) }
+    ensures { result ≡ option_and_then number_of_struct (input_at method.now input) }
 {
     match input {
         InputPlace::Receiver => receiver_struct(method),

@@ -48,6 +48,5 @@ mod edges;
 mod inputs;
 mod lines;
 mod paths;
-mod places;
 
 pub use callables::print_page;

@@ -4,7 +4,7 @@ ghost use Rattle.std.specs.Prelude.{◌≡◌, ◌++◌, codes, option_and_then,
 ghost use Rattle.std.specs.List.{join_by};
 ghost use Rattle.std.specs.Option.{option_copied};
 ghost use Rattle.bridge_outside.specs.Printing.{Prints, separator_at};
-ghost use Rattle.bridge_page.specs.inside.Printed.{dotted, path_text};
+ghost use Rattle.bridge_page.specs.inside.Printed.{dotted, leaf_path_text};
 ghost use Rattle.bridge_page.specs.inside.Walked.{field_struct_id, name_of_field, names_from};
 ghost use Rattle.hir_mentions.specs.Mentions.{where_any};
 
@@ -104,7 +104,7 @@ fn put_path<K: Sink>(
     path: &LeafPath,
 )
     ensures { Prints (K.state sink.old) out.old (K.state sink.new) out.new
-        (path_text tcx.now.definitions method.now path.now) }
+        (leaf_path_text tcx.now.definitions method.now path.now) }
 {
     let start = input_struct(method, path.input);
     put_input(sink, out, method, path.input);
@@ -122,7 +122,7 @@ fn put_path_at<K: Sink>(
 )
     ensures { Prints (K.state sink.old) out.old (K.state sink.new) out.new
         (separator_at (codes ", ") place
-        ++ path_text tcx.now.definitions method.now path.now) }
+        ++ leaf_path_text tcx.now.definitions method.now path.now) }
 {
     put_separator(sink, out, ", ", place);
     put_path(sink, out, tcx, method, path);
@@ -137,7 +137,7 @@ pub(crate) fn put_joined_paths<K: Sink>(
     paths: &[LeafPath],
 )
     ensures { Prints (K.state sink.old) out.old (K.state sink.new) out.new
-        (join_by (path_text tcx.now.definitions method.now) (codes ", ") paths.now) }
+        (join_by (leaf_path_text tcx.now.definitions method.now) (codes ", ") paths.now) }
 {
     for (place, path) in paths.iter().enumerate() {
         put_path_at(sink, out, tcx, method, place, path);

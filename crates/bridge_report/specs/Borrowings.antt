@@ -42,24 +42,24 @@ listed_leaves c test = filter (passes test) c.leaves
 -- ---- edges
 
 -- the whole of an input that is a slice or isn't
-abbrev pub whole_kind : Bool → ReportEdgeKind
-whole_kind true = kind.Slice
-whole_kind false = kind.Opaque
+abbrev pub kind_of_whole : Bool → ReportEdgeKind
+kind_of_whole true = kind.Slice
+kind_of_whole false = kind.Opaque
 
 -- what is held of it
 abbrev pub edge_kind : Bool → ShallowEdge (Unit {0}) → ReportEdgeKind
-edge_kind slice Whole = whole_kind slice
+edge_kind slice Whole = kind_of_whole slice
 edge_kind slice (Position key d optional) = kind.Struct d optional
 
 -- the edges of the input of a number
-abbrev pub input_edges : Bool → (ℕ → Bool) → ℕ × CallableInput → List ReportEdge
-input_edges receiver test numbered =
+abbrev pub edges_of_input : Bool → (ℕ → Bool) → ℕ × CallableInput → List ReportEdge
+edges_of_input receiver test numbered =
     map (λ edge. record { input = input_place receiver numbered.0; kind = edge_kind numbered.1.slice edge })
     (shallow_edges test numbered.1.optional numbered.1.skeleton)
 
 -- those of all inputs, in order
 abbrev pub held_edges : Callable → (ℕ → Bool) → List ReportEdge
-held_edges c test = flat_map (input_edges c.receiver test) (enumerate_from 0 c.inputs)
+held_edges c test = flat_map (edges_of_input c.receiver test) (enumerate_from 0 c.inputs)
 
 -- ---- reports
 

@@ -43,8 +43,8 @@ abbrev pub param_input : Param → CallableInput
 param_input p =
     record { name = p.name; skeleton = outline (param_skeleton p.ty); optional = is_option p.ty; slice = is_slice_type p.ty }
 
-abbrev pub method_inputs : Method → List CallableInput
-method_inputs m = where_any (λ receiver. receiver_input receiver.ty ∷ []) m.param_self ++ map param_input m.params
+abbrev pub callable_inputs : Method → List CallableInput
+callable_inputs m = where_any (λ receiver. receiver_input receiver.ty ∷ []) m.param_self ++ map param_input m.params
 
 -- ---- callables
 
@@ -55,7 +55,7 @@ callable_of defs id place m = record {
   receiver = is_some m.param_self;
   environment = m.lifetime_env;
   named = lifetimes_named m.output;
-  inputs = method_inputs m;
+  inputs = callable_inputs m;
   leaves = borrowing_leaves defs receiver_name m;
 }
 

@@ -1,5 +1,4 @@
 pub mod DeclaredLemmas
 pub mod DocsLemmas
 pub mod HeadlineLemmas
-pub mod LineLemmas
 pub mod RunLemmas

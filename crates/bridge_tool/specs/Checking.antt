@@ -1,11 +1,9 @@
 -- What is said of the declarations of an input, for its backend and by its configuration.
-use Rattle.std.specs.Prelude.{ℕ, List, ◌++◌, codes, decimal, length}
-use Rattle.std.specs.List.{flat_map}
+use Rattle.std.specs.Prelude.{ℕ, List}
 use Rattle.bridge_lowering.specs.Answers.{AreRefusedWith, IsPageOf}
 use Rattle.bridge_lowering.specs.Broken.{BreakNothing}
 use Rattle.bridge_read.specs.declared.input.Input.{Input}
 use Rattle.hir_backends.specs.Validator.{basic_meaning}
-use Rattle.hir_reports.specs.Texts.{report_text}
 use Rattle.hir_reports.specs.declared.report.LoweringReport.{LoweringReport}
 
 -- no declaration breaks a rule
@@ -19,7 +17,3 @@ IsRefusedWith input told = AreRefusedWith input.env (basic_meaning input.validat
 -- the page of the declarations
 abbrev pub HasPage : Input → List ℕ → Type 0
 HasPage input text = IsPageOf input.env (basic_meaning input.validator) input.config text
-
--- the lines of all reports, and last how many they are
-abbrev pub lines : List LoweringReport → List ℕ
-lines reports = flat_map report_text reports ++ codes "refused " ++ decimal (length reports) ++ codes "\n"

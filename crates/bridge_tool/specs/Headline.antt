@@ -2,11 +2,12 @@
 use Rattle.std.specs.Prelude.{◌≡◌, ◌≢◌, ◌≤◌, ◌<◌, ◌^◌, ◌⊎◌, ◌↔◌, ℕ, List, [], Some, String, length}
 use Rattle.std.specs.declared.alloc.Global.{Global}
 use Rattle.bridge_outside.specs.Outside.{Rose, taken_with}
+use Rattle.bridge_printing.specs.Lines.{lines}
 use Rattle.hir_reports.specs.declared.report.LoweringReport.{LoweringReport}
 use Rattle.bridge_read.specs.declared.input.Input.{Input}
 use Rattle.bridge_read.specs.Inputs.{SpellsInput}
 use Rattle.bridge_tool.specs.Commands.{AskFor}
-use Rattle.bridge_tool.specs.Checking.{BreaksNothing, HasPage, IsRefusedWith, lines}
+use Rattle.bridge_tool.specs.Checking.{BreaksNothing, HasPage, IsRefusedWith}
 use Rattle.bridge_tool.specs.Running.{World}
 use Rattle.bridge_tool.specs.declared.command.Command.{Command}
 use Rattle.bridge_tool.specs.declared.command.Command.TheVariants.{Check, Links}

@@ -4,10 +4,11 @@ use Rattle.std.specs.declared.alloc.Global.{Global}
 use Rattle.bridge_read.specs.declared.input.Input.{Input}
 use Rattle.bridge_read.specs.Inputs.{SpellsInput}
 use Rattle.bridge_outside.specs.Outside.{Rose, SinkState, SourceState, taken_with}
+use Rattle.bridge_printing.specs.Lines.{lines}
 use Rattle.bridge_tool.specs.declared.status.Status.{Status}
 use Rattle.bridge_tool.specs.declared.status.Status.TheVariants as status
 use Rattle.bridge_tool.specs.Commands.{AreCommand, AskFor}
-use Rattle.bridge_tool.specs.Checking.{BreaksNothing, HasPage, IsRefusedWith, lines}
+use Rattle.bridge_tool.specs.Checking.{BreaksNothing, HasPage, IsRefusedWith}
 use Rattle.bridge_tool.specs.Declining.{AreFaulty}
 use Rattle.bridge_tool.specs.DocsPage.{docs_page}
 use Rattle.bridge_tool.specs.declared.command.Command.{Command}

@@ -41,7 +41,6 @@
 mod command;
 mod decline;
 mod docs;
-mod lines;
 mod program;
 mod status;
 mod text;

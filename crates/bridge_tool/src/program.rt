@@ -20,13 +20,13 @@ ghost use Rattle.hir_backends.specs.Validator.{basic_meaning};
 use crate::command::{Command, command_of};
 use crate::decline::print_fault;
 use crate::docs::docs_page;
-use crate::lines::report_lines;
 use crate::status::Status;
 use crate::text::print_text;
 use bridge_ast::Text;
 use bridge_lowering::{LowerFault, lower_and_borrow};
 use bridge_outside::{ReadFault, Sink, SinkFault, Source, read_all};
 use bridge_page::print_page;
+use bridge_printing::print_reports;
 use bridge_read::{Input, InputFault, InputKind, read_input};
 use bridge_report::BridgeReport;
 use hir_reports::LoweringReport;
@@ -46,25 +46,21 @@ fn ended(verdict: Status, printed: Result<(), SinkFault>) -> Status
 /// Prints the page of declarations that break no rule.
 fn accept<K: Sink>(sink: &mut K, report: &BridgeReport) -> Status
     requires { AreReported (callables report.now.tcx.definitions) report.now.callables }
-    ensures { (input : Read) → AreAcceptedWith input.env (basic_meaning input.validator) input.config
-        report.now → Printed (TellsOf input) (K.state sink.old) (K.state sink.new) result }
+    ensures { (input : Read) → AreAcceptedWith input.env (basic_meaning input.validator)
+        input.config report.now
+        → Printed (TellsOf input) (K.state sink.old) (K.state sink.new) result }
 {
     let printed = print_page(sink, &report.tcx, report.callables.as_slice());
     ended(Status::Accepted, printed)
 }
 
 /// Prints the lines of these reports.
-fn refuse<K: Sink>(alloc: Global, sink: &mut K, reports: &[LoweringReport]) -> Status
+fn refuse<K: Sink>(sink: &mut K, reports: &[LoweringReport]) -> Status
     ensures { (input : Read) → IsRefusedWith input reports.now
         → Printed (TellsOf input) (K.state sink.old) (K.state sink.new) result }
 {
-    match report_lines(alloc, reports) {
-        Ok(text) => {
-            let printed = print_text(sink, text.as_str());
-            ended(Status::Refused, printed)
-        }
-        Err(AllocError) => Status::NoMemory,
-    }
+    let printed = print_reports(sink, reports);
+    ended(Status::Refused, printed)
 }
 
 /// Tests the rules of the declarations of an input, and prints their page or their reports.
@@ -73,7 +69,7 @@ fn tell<K: Sink>(alloc: Global, sink: &mut K, input: &Input) -> Status
 {
     match lower_and_borrow(alloc, &input.env, input.config, &input.validator) {
         Ok(report) => accept(sink, &report),
-        Err(LowerFault::Refused(reports)) => refuse(alloc, sink, &reports),
+        Err(LowerFault::Refused(reports)) => refuse(sink, &reports),
         Err(LowerFault::NoMemory) => Status::NoMemory,
     }
 }

@@ -34,7 +34,7 @@ use Rattle.hir_skeleton.specs.Lowered.{input_fields, receiver_skeleton}
 use Rattle.hir_skeleton.specs.Skeletons.{Skeleton}
 use Rattle.hir_usage_notes.specs.declared.definitions.LoweredDefinitions.{LoweredDefinitions}
 use Rattle.hir_readings.specs.Declared.{declared_fields, declared_function, declared_methods, found_fields, method_signature, struct_skeletons}
-use Rattle.hir_readings.specs.Inputs.{Input, edges_of_inputs, leaves_of_inputs, lowered_input, lowered_inputs, numbered_inputs, receiver_input}
+use Rattle.hir_readings.specs.Inputs.{Input, edges_of_inputs, leaves_of_inputs, lowered_input, lowered_inputs, numbered_inputs, lowered_receiver}
 use Rattle.hir_readings.specs.Knowing.{id_there, known_as, type_id_of}
 use Rattle.hir_readings.specs.Readings.{AreReadAsDeclared, IsFunctionRead, IsReadAsDeclared, IsReadLike, fields_among}
 use Rattle.hir_readings.proofs.ItemLemmas.{HaveDeclared, enum_methods_at, fields_at, function_at, opaque_methods_at, out_struct_methods_at, struct_methods_at}
@@ -107,7 +107,7 @@ module _ (it : Interface) where
   -- ---- methods, where it is known which fields structs have
 
   module _ (fields_of : TypeId → List (Skeleton TypeId)) (agree : (place : ItemPlace) → fields_of (id_there it.catalog place) ≡ map known (declared_fields it place)) where
-    first_skeletons : (o : Option ParamSelf) → where_any (λ receiver. receiver_skeleton receiver.ty ∷ []) o ≡ map (λ (input : Input TypeId). input.skeleton) (where_any (λ receiver. receiver_input receiver.ty ∷ []) o)
+    first_skeletons : (o : Option ParamSelf) → where_any (λ receiver. receiver_skeleton receiver.ty ∷ []) o ≡ map (λ (input : Input TypeId). input.skeleton) (where_any (λ receiver. lowered_receiver receiver.ty ∷ []) o)
     first_skeletons None = refl
     first_skeletons (Some receiver) = refl
 
@@ -118,8 +118,8 @@ module _ (it : Interface) where
     pub input_skeletons : (m : Method) → method_inputs m ≡ map (λ (input : Input TypeId). input.skeleton) (lowered_inputs m)
     input_skeletons m =
         ap (λ first. first ++ map (λ param. param_skeleton param.ty) m.params) (first_skeletons m.param_self)
-        ∙ ap (λ rest. map (λ (input : Input TypeId). input.skeleton) (where_any (λ receiver. receiver_input receiver.ty ∷ []) m.param_self) ++ rest) (param_skeletons m.params)
-        ∙ sym (map-append (λ (input : Input TypeId). input.skeleton) (where_any (λ receiver. receiver_input receiver.ty ∷ []) m.param_self) (map (λ param. lowered_input param.ty) m.params))
+        ∙ ap (λ rest. map (λ (input : Input TypeId). input.skeleton) (where_any (λ receiver. lowered_receiver receiver.ty ∷ []) m.param_self) ++ rest) (param_skeletons m.params)
+        ∙ sym (map-append (λ (input : Input TypeId). input.skeleton) (where_any (λ receiver. lowered_receiver receiver.ty ∷ []) m.param_self) (map (λ param. lowered_input param.ty) m.params))
 
     reads : (m : Method) (n : NumberedSignature) → HasInputs it.catalog m n → IsReadLike it fields_of m n
     reads m n has =

@@ -51,7 +51,7 @@ use Rattle.hir_stages.specs.Numbering.{filled_function, filled_method, filled_si
 use Rattle.hir_types.specs.Named.{Returned, lifetimes_named}
 use Rattle.hir_types.specs.declared.self_types.SelfType.{SelfType}
 use Rattle.hir_readings.specs.Declared.{function_signature, method_signature, numbered_as}
-use Rattle.hir_readings.specs.Inputs.{Input, input_known_as, lowered_input, lowered_inputs, numbered_input, numbered_inputs, own_input, receiver_input}
+use Rattle.hir_readings.specs.Inputs.{Input, input_known_as, lowered_input, lowered_inputs, numbered_input, numbered_inputs, own_input, lowered_receiver}
 use Rattle.hir_readings.specs.Knowing.{id_there}
 use Rattle.hir_readings.specs.NamedLifetimes.{returned_lifetimes}
 use Rattle.hir_readings.proofs.JoinLemmas.{all_joined, known_made}
@@ -85,10 +85,10 @@ known_twice f g (x ∷ xs) = ap (λ ys. f (g x) ∷ ys) (known_twice f g xs)
 -- ---- receivers
 
 abbrev received : Option SelfType → List (Input TypeId)
-received own = where_any (λ r. receiver_input r ∷ []) own
+received own = where_any (λ r. lowered_receiver r ∷ []) own
 
 abbrev with_marks : Option SelfType → Option Attrs → List (Input TypeId)
-with_marks own marks = where_any (λ receiver. receiver_input receiver.ty ∷ []) (both_given typed_receiver own marks)
+with_marks own marks = where_any (λ receiver. lowered_receiver receiver.ty ∷ []) (both_given typed_receiver own marks)
 
 module _ (catalog : Catalog) where
   abbrev known_input : Input ItemPlace → Input TypeId
@@ -98,7 +98,7 @@ module _ (catalog : Catalog) where
   own_known borrow own = map known_input (where_any (λ target. own_input catalog borrow target ∷ []) own)
 
   one_received : (borrow : Option (MaybeStatic ℕ × Mutability)) (t : Target) (o : Option SelfType)
-      → IfSome o (λ r. receiver_input r ≡ known_input (own_input catalog borrow t)) → IfSome (option_map (λ r. Some r) o) (λ own. received own ≡ own_known borrow (Some t))
+      → IfSome o (λ r. lowered_receiver r ≡ known_input (own_input catalog borrow t)) → IfSome (option_map (λ r. Some r) o) (λ own. received own ≡ own_known borrow (Some t))
   one_received borrow t None h = tt
   one_received borrow t (Some r) h = ap (λ input. input ∷ []) h
 

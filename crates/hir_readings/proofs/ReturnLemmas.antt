@@ -33,7 +33,7 @@ use Rattle.hir_types.specs.declared.positions.OutputOnly.{OutputOnly}
 use Rattle.hir_types.specs.declared.returns.ReturnType.TheVariants as returned
 use Rattle.hir_types.specs.declared.returns.SuccessType.{SuccessType}
 use Rattle.hir_types.specs.declared.returns.SuccessType.TheVariants as success
-use Rattle.hir_readings.specs.NamedLifetimes.{entry_generics, lent_generics, level_absent, level_behind, level_element_named, level_lifetimes, level_named, level_returned, level_within, returned_lifetimes, value_lifetimes}
+use Rattle.hir_readings.specs.NamedLifetimes.{entry_generics, lent_generics, level_absent, level_behind, level_element_named, level_lifetimes, level_named, returned_level_lifetimes, level_within, returned_lifetimes, value_lifetimes}
 use Rattle.hir_readings.specs.NumberedSkeletons.{borrow_lifetime}
 use Rattle.hir_readings.proofs.FormedLemmas.{flat_carries}
 use Rattle.hir_readings.proofs.NamedLemmas.{ElementNames, Lifetimes, Names, ShapeNames, SliceNames, ValueNames, none_more, shape_made}
@@ -285,13 +285,13 @@ module _ (catalog : Catalog) where
     option_returned ty t x whole inner = nullable (level_lifetimes catalog x) (success_form of_outputs catalog written t) inner
 
     returned_level : (ty : NumberedType) (x : NumberedType-F NumberedType) → IfSome (out_form of_outputs catalog ty) (SuccessNames (level_lifetimes catalog x))
-        → IfSome (success_form of_outputs catalog written ty) (SuccessNames (level_lifetimes catalog x)) → IfSome (level_return_form of_outputs catalog written ty x) (ReturnNames (level_returned catalog x))
+        → IfSome (success_form of_outputs catalog written ty) (SuccessNames (level_lifetimes catalog x)) → IfSome (level_return_form of_outputs catalog written ty x) (ReturnNames (returned_level_lifetimes catalog x))
     returned_level ty (NumberedType-F.Option t d) whole inner = option_returned ty t (out-NumberedType t) whole (success_named t)
     returned_level ty (NumberedType-F.Result t e d) whole inner =
         fallible (value_lifetimes catalog t) (value_lifetimes catalog e) (success_form of_outputs catalog written t) (error_form of_outputs catalog e) (success_named t) (error_named e)
     returned_level ty x whole inner = infallible (level_lifetimes catalog x) (success_form of_outputs catalog written ty) inner
 
-    pub return_named : (ty : NumberedType) → IfSome (method_return_form catalog written ty) (λ r. lifetimes_named r ≡ level_returned catalog (out-NumberedType ty))
+    pub return_named : (ty : NumberedType) → IfSome (method_return_form catalog written ty) (λ r. lifetimes_named r ≡ returned_level_lifetimes catalog (out-NumberedType ty))
     return_named ty = returned_level ty (out-NumberedType ty) (out_named ty) (success_named ty)
 
     pub output_named : (o : Option NumberedType) → IfSome (output_form catalog written o) (λ r. lifetimes_named r ≡ returned_lifetimes catalog o)

@@ -21,7 +21,7 @@ use Rattle.hir_skeleton.specs.Skeletons.{Nothing, Struct}
 use Rattle.hir_types.specs.Types.{is_option}
 use Rattle.hir_types.specs.declared.self_types.SelfType.{SelfType}
 use Rattle.hir_types.specs.declared.types.HirType.TheOpen.{HirType-F}
-use Rattle.hir_readings.specs.Inputs.{input_known_as, lowered_input, numbered_input, own_input, receiver_input}
+use Rattle.hir_readings.specs.Inputs.{input_known_as, lowered_input, numbered_input, own_input, lowered_receiver}
 use Rattle.hir_readings.specs.Knowing.{id_there, known_as, type_id_of}
 use Rattle.hir_readings.specs.NumberedSkeletons.{lent_skeleton, level_in_option, level_skeleton, numbered_skeleton, own_skeleton, stands_for_slice, stands_in_option, value_skeleton}
 use Rattle.hir_readings.proofs.FormedLemmas.{rolled, shape_made}
@@ -99,7 +99,7 @@ module _ (catalog : Catalog) where
       if_some (Received borrow (entry_at catalog t.place) t) (λ r. receiver_skeleton r ≡ known_as (id_there catalog) (own_skeleton catalog borrow t)) (own_received borrow t) (receiver_form catalog borrow t)
       (entry_received borrow (entry_at catalog t.place) t refl)
 
-  pub input_received : (borrow : Option (MaybeStatic ℕ × Mutability)) (t : Target) → IfSome (receiver_form catalog borrow t) (λ r. receiver_input r ≡ input_known_as (id_there catalog) (own_input catalog borrow t))
+  pub input_received : (borrow : Option (MaybeStatic ℕ × Mutability)) (t : Target) → IfSome (receiver_form catalog borrow t) (λ r. lowered_receiver r ≡ input_known_as (id_there catalog) (own_input catalog borrow t))
   input_received borrow t =
-      if_some (λ r. receiver_skeleton r ≡ known_as (id_there catalog) (own_skeleton catalog borrow t)) (λ r. receiver_input r ≡ input_known_as (id_there catalog) (own_input catalog borrow t))
+      if_some (λ r. receiver_skeleton r ≡ known_as (id_there catalog) (own_skeleton catalog borrow t)) (λ r. lowered_receiver r ≡ input_known_as (id_there catalog) (own_input catalog borrow t))
       (λ r same i. record { skeleton = same i; optional = false; slice = false }) (receiver_form catalog borrow t) (receiver_has borrow t)

@@ -61,8 +61,8 @@ numbered_inputs catalog n = where_any (λ target. own_input catalog n.borrow tar
 abbrev pub lowered_input : ParamType → Input TypeId
 lowered_input ty = record { skeleton = param_skeleton ty; optional = is_option ty; slice = is_slice_type ty }
 
-abbrev pub receiver_input : SelfType → Input TypeId
-receiver_input ty = record { skeleton = receiver_skeleton ty; optional = false; slice = false }
+abbrev pub lowered_receiver : SelfType → Input TypeId
+lowered_receiver ty = record { skeleton = receiver_skeleton ty; optional = false; slice = false }
 
 abbrev pub lowered_inputs : Method → List (Input TypeId)
-lowered_inputs m = where_any (λ receiver. receiver_input receiver.ty ∷ []) m.param_self ++ map (λ param. lowered_input param.ty) m.params
+lowered_inputs m = where_any (λ receiver. lowered_receiver receiver.ty ∷ []) m.param_self ++ map (λ param. lowered_input param.ty) m.params

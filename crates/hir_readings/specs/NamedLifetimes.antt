@@ -66,12 +66,12 @@ module _ (catalog : Catalog) where
   value_lifetimes ty = level_lifetimes (out-NumberedType ty)
 
   -- of a return: of a result those of the success, and then those of the error
-  abbrev pub level_returned : NumberedType-F NumberedType → List (MaybeStatic ℕ)
-  level_returned (NumberedType-F.Option t d) = value_lifetimes t
-  level_returned (NumberedType-F.Result t e d) = value_lifetimes t ++ value_lifetimes e
-  level_returned x = level_lifetimes x
+  abbrev pub returned_level_lifetimes : NumberedType-F NumberedType → List (MaybeStatic ℕ)
+  returned_level_lifetimes (NumberedType-F.Option t d) = value_lifetimes t
+  returned_level_lifetimes (NumberedType-F.Result t e d) = value_lifetimes t ++ value_lifetimes e
+  returned_level_lifetimes x = level_lifetimes x
 
   -- where anything is returned
   abbrev pub returned_lifetimes : Option NumberedType → List (MaybeStatic ℕ)
   returned_lifetimes None = []
-  returned_lifetimes (Some ty) = level_returned (out-NumberedType ty)
+  returned_lifetimes (Some ty) = returned_level_lifetimes (out-NumberedType ty)

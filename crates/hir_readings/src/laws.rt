@@ -24,7 +24,7 @@ ghost use Rattle.hir_skeleton.specs.Skeletons.{Skeleton};
 ghost use Rattle.hir_types.specs.Named.{lifetimes_named};
 ghost use Rattle.hir_usage_notes.specs.declared.definitions.LoweredDefinitions.{LoweredDefinitions};
 ghost use Rattle.hir_readings.specs.Declared.{declared_fields};
-ghost use Rattle.hir_readings.specs.Inputs.{Input, edges_of_inputs, input_known_as, leaves_of_inputs, lowered_input, numbered_input, own_input, receiver_input};
+ghost use Rattle.hir_readings.specs.Inputs.{Input, edges_of_inputs, input_known_as, leaves_of_inputs, lowered_input, numbered_input, own_input, lowered_receiver};
 ghost use Rattle.hir_readings.specs.Knowing.{edge_known_as, id_there, known_as};
 ghost use Rattle.hir_readings.specs.NamedLifetimes.{returned_lifetimes};
 ghost use Rattle.hir_readings.specs.NumberedSkeletons.{numbered_skeleton};
@@ -38,7 +38,7 @@ pub fn forms_have_the_skeletons_of_their_types()
     ensures param { (catalog : Catalog) (ty : NumberedType) → IfSome (param_form catalog ty)
         (λ t. lowered_input t ≡ input_known_as (id_there catalog) (numbered_input catalog ty)) }
     ensures receiver { (catalog : Catalog) (borrow : Option (MaybeStatic ℕ × Mutability))
-        (target : Target) → IfSome (receiver_form catalog borrow target) (λ r. receiver_input r
+        (target : Target) → IfSome (receiver_form catalog borrow target) (λ r. lowered_receiver r
         ≡ input_known_as (id_there catalog) (own_input catalog borrow target)) }
 {}
 

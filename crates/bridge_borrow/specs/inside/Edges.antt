@@ -12,7 +12,7 @@ use Rattle.hir_parts.specs.declared.parts.InputPart.{InputPart}
 use Rattle.hir_parts.specs.declared.parts.InputPart.TheVariants as part
 use Rattle.hir_skeleton.specs.Edges.{shallow_edges}
 use Rattle.hir_skeleton.specs.Leaves.{number_passes}
-use Rattle.bridge_report.specs.Borrowings.{edge_kind, whole_kind}
+use Rattle.bridge_report.specs.Borrowings.{edge_kind, kind_of_whole}
 use Rattle.bridge_report.specs.Callables.{CallableInput}
 use Rattle.bridge_report.specs.InContext.{param_input, receiver_input}
 use Rattle.bridge_report.specs.declared.report.InputPlace.{InputPlace}
@@ -23,22 +23,22 @@ use Rattle.bridge_report.specs.declared.report.ReportEdgeKind.TheVariants as kin
 -- ---- by parts
 
 -- the edge of an input that carries these lifetimes, where one of them passes
-abbrev pub whole_edges : InputPlace → (ℕ → Bool) → Bool → List (MaybeStatic ℕ) → List ReportEdge
-whole_edges at test slice lifetimes =
-    cond (list_any (number_passes test) lifetimes) (record { input = at; kind = whole_kind slice } ∷ []) []
+abbrev pub edges_of_whole : InputPlace → (ℕ → Bool) → Bool → List (MaybeStatic ℕ) → List ReportEdge
+edges_of_whole at test slice lifetimes =
+    cond (list_any (number_passes test) lifetimes) (record { input = at; kind = kind_of_whole slice } ∷ []) []
 
 -- that of a struct for its argument of a number, where this passes
 abbrev pub argument_edges : InputPlace → (ℕ → Bool) → Bool → ℕ × MaybeStatic ℕ → List ReportEdge
 argument_edges at test optional arg = cond (number_passes test arg.1) (record { input = at; kind = kind.Struct arg.0 optional } ∷ []) []
 
 -- those for its arguments, of which the first has the number n
-abbrev pub struct_edges : InputPlace → (ℕ → Bool) → Bool → ℕ → List (MaybeStatic ℕ) → List ReportEdge
-struct_edges at test optional n args = flat_map (argument_edges at test optional) (enumerate_from n args)
+abbrev pub edges_of_struct : InputPlace → (ℕ → Bool) → Bool → ℕ → List (MaybeStatic ℕ) → List ReportEdge
+edges_of_struct at test optional n args = flat_map (argument_edges at test optional) (enumerate_from n args)
 
 -- those of a part
 abbrev pub part_edges : InputPlace → (ℕ → Bool) → Bool → InputPart → List ReportEdge
-part_edges at test optional (part.Carrier slice own element given) = whole_edges at test slice (carried_by own element given.now)
-part_edges at test optional (part.Struct id args) = struct_edges at test optional 0 args.now
+part_edges at test optional (part.Carrier slice own element given) = edges_of_whole at test slice (carried_by own element given.now)
+part_edges at test optional (part.Struct id args) = edges_of_struct at test optional 0 args.now
 
 -- ---- by inputs
 

@@ -10,8 +10,8 @@ use Rattle.hir_definitions.specs.declared.methods.Method.{Method}
 use Rattle.hir_life.specs.Environment.{Environment, longer_of}
 use Rattle.hir_skeleton.specs.Leaves.{TellsLonger}
 use Rattle.hir_skeleton.specs.NamedLeaves.{NamedLeaf}
-use Rattle.bridge_report.specs.Borrowings.{input_edges, leaf_path, passes}
-use Rattle.bridge_report.specs.InContext.{method_inputs}
+use Rattle.bridge_report.specs.Borrowings.{edges_of_input, leaf_path, passes}
+use Rattle.bridge_report.specs.InContext.{callable_inputs}
 use Rattle.bridge_report.specs.declared.report.LeafPath.{LeafPath}
 use Rattle.bridge_report.specs.declared.report.ReturnedLifetime.{ReturnedLifetime}
 
@@ -26,9 +26,9 @@ abbrev pub passing_paths : Bool → (ℕ → Bool) → List NamedLeaf → List L
 passing_paths receiver test leaves = map (λ leaf. leaf_path receiver leaf.path) (filter (passes test) leaves)
 
 -- what may be borrowed under t of a method that has these leaves
-pub record IsUnder (m : Method) (leaves : List NamedLeaf) (returned : ReturnedLifetime) (t : ℕ) : Type 0 where
+pub record IsListedUnder (m : Method) (leaves : List NamedLeaf) (returned : ReturnedLifetime) (t : ℕ) : Type 0 where
   pub lifetime : returned.lifetime ≡ t
   pub test : ℕ → Bool
   pub tells : TellsLonger (longer_of m.lifetime_env) t test
   pub paths : returned.leaves ≡ passing_paths (is_some m.param_self) test leaves
-  pub edges : returned.edges ≡ flat_map (input_edges (is_some m.param_self) test) (enumerate_from 0 (method_inputs m))
+  pub edges : returned.edges ≡ flat_map (edges_of_input (is_some m.param_self) test) (enumerate_from 0 (callable_inputs m))

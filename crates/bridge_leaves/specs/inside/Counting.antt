@@ -21,15 +21,15 @@ abbrev pub own_leaves : {K : Type 0} → List (Skeleton K) → ℕ
 own_leaves fields = sum_by leaves_here fields
 
 -- the number of a struct, where it is one of so many
-abbrev pub number_of : ℕ → TypeId → List ℕ
-number_of count (type.Struct number) = cond (nat_lt number count) (number ∷ []) []
-number_of count _ = []
+abbrev pub struct_number_below : ℕ → TypeId → List ℕ
+struct_number_below count (type.Struct number) = cond (nat_lt number count) (number ∷ []) []
+struct_number_below count _ = []
 
 -- the struct that it is, by its number
 abbrev pub struct_here : ℕ → Skeleton TypeId → List ℕ
 struct_here count Nothing = []
 struct_here count (Carrier lifetimes) = []
-struct_here count (Struct id args) = number_of count id
+struct_here count (Struct id args) = struct_number_below count id
 
 -- those among several, in order
 abbrev pub structs_among : ℕ → List (Skeleton TypeId) → List ℕ

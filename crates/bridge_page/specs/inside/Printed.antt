@@ -51,25 +51,25 @@ dotted names = flat_map (λ name. codes "." ++ name) names
 abbrev pub fields_text : Definitions → Option (Skeleton TypeId) → List ℕ → List ℕ
 fields_text defs inside fields = dotted (where_any (field_names defs fields) inside)
 
-abbrev pub path_text : Definitions → Method → LeafPath → List ℕ
-path_text defs m path = input_name m path.input ++ fields_text defs (input_at m path.input) path.fields
+abbrev pub leaf_path_text : Definitions → Method → LeafPath → List ℕ
+leaf_path_text defs m path = input_name m path.input ++ fields_text defs (input_at m path.input) path.fields
 
 -- ---- edges
 
-abbrev pub kind_text : List ℕ → ReportEdgeKind → List ℕ
-kind_text name kind.Opaque = codes "opaque " ++ name
-kind_text name kind.Slice = codes "slice " ++ name
-kind_text name (kind.Struct d optional) = codes "struct " ++ name ++ codes " " ++ decimal d ++ optional_text optional
+abbrev pub edge_kind_text : List ℕ → ReportEdgeKind → List ℕ
+edge_kind_text name kind.Opaque = codes "opaque " ++ name
+edge_kind_text name kind.Slice = codes "slice " ++ name
+edge_kind_text name (kind.Struct d optional) = codes "struct " ++ name ++ codes " " ++ decimal d ++ optional_text optional
 
 abbrev pub report_edge_text : Method → ReportEdge → List ℕ
-report_edge_text m edge = kind_text (input_name m edge.input) edge.kind
+report_edge_text m edge = edge_kind_text (input_name m edge.input) edge.kind
 
 -- ---- lines
 
 abbrev pub paths_line : Definitions → Method → ReturnedLifetime → List ℕ
 paths_line defs m returned =
     codes "  lifetime " ++ decimal returned.lifetime ++ codes " " ++ printed_name m.lifetime_env returned.lifetime ++ codes ":"
-    ++ list_text (path_text defs m) returned.leaves ++ codes "\n"
+    ++ list_text (leaf_path_text defs m) returned.leaves ++ codes "\n"
 
 abbrev pub report_edges_line : Method → ReturnedLifetime → List ℕ
 report_edges_line m returned = codes "  edges:" ++ list_text (report_edge_text m) returned.edges ++ codes "\n"

@@ -14,10 +14,10 @@ input_number (type.Struct id) = Some id
 input_number _ = None
 
 -- that of the struct that this is
-abbrev pub struct_id : Skeleton TypeId → Option ℕ
-struct_id Nothing = None
-struct_id (Carrier lifetimes) = None
-struct_id (Struct key args) = input_number key
+abbrev pub number_of_struct : Skeleton TypeId → Option ℕ
+number_of_struct Nothing = None
+number_of_struct (Carrier lifetimes) = None
+number_of_struct (Struct key args) = input_number key
 
 -- the name of a field of a struct
 abbrev pub name_of_field : ℕ → InputStruct → List (List ℕ)
@@ -25,7 +25,7 @@ name_of_field i def = where_any (λ field. field.name ∷ []) (slice_get def.fie
 
 -- the struct that the field is
 abbrev pub field_struct_id : ℕ → InputStruct → Option ℕ
-field_struct_id i def = option_and_then struct_id (slice_get (input_fields def) i)
+field_struct_id i def = option_and_then number_of_struct (slice_get (input_fields def) i)
 
 -- the struct of an id, where there is one
 abbrev pub struct_at : Definitions → Option ℕ → Option InputStruct

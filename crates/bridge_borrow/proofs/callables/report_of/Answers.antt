@@ -1,6 +1,6 @@
 use Rattle.std.proofs.Common.{subst, refl}
 use Rattle.std.specs.List.{AllZip}
-use Rattle.bridge_borrow.specs.inside.Returned.{IsUnder}
+use Rattle.bridge_borrow.specs.inside.Returned.{IsListedUnder}
 use Rattle.bridge_borrow.proofs.Reporting.{is_reported, keeps_named}
 use Rattle.bridge_borrow.proofs.callables.report_of.Goals as goal
 
@@ -15,5 +15,5 @@ returns c =
     let m = c.fitting_method-method.result.now in
     is_reported defs c.args.id.now m m.abi_name c.in_ok-lifetimes.lifetimes.keys (record { callable = c.args.id.now; returned = c.in_ok-returned_lifetimes.field-0 }) refl
     c.in_ok-lifetimes.ensures
-    (subst (λ leaves. AllZip (IsUnder m leaves) c.in_ok-returned_lifetimes.field-0 c.in_ok-lifetimes.lifetimes.keys) c.in_ok-fields.ensures
+    (subst (λ leaves. AllZip (IsListedUnder m leaves) c.in_ok-returned_lifetimes.field-0 c.in_ok-lifetimes.lifetimes.keys) c.in_ok-fields.ensures
     c.in_ok-returned_lifetimes.ensures) c.fitting_method-method.ensures.there

@@ -1,7 +1,7 @@
 use Rattle.bridge_outside.proofs.PrintingLaws.{◌⨟◌, prints_same}
 use Rattle.bridge_page.specs.inside.Printed.{callable_text}
 use Rattle.bridge_page.proofs.PageLemmas.{reported_there}
-use Rattle.bridge_page.proofs.TextLemmas.{one_more}
+use Rattle.bridge_printing.proofs.ReportLemmas.{one_more}
 use Rattle.bridge_page.proofs.callables.put_callables.Goals as goal
 
 pub put_callable-requires : goal.put_callable-requires

@@ -1,6 +1,6 @@
 use Rattle.bridge_outside.proofs.PrintingLaws.{◌⨟◌, prints_same}
 use Rattle.bridge_page.specs.inside.Printed.{returned_text}
-use Rattle.bridge_page.proofs.TextLemmas.{one_more}
+use Rattle.bridge_printing.proofs.ReportLemmas.{one_more}
 use Rattle.bridge_page.proofs.lines.put_all_returned.Goals as goal
 
 pub loop-lifetime-preserved : goal.loop-lifetime-preserved

@@ -1,11 +1,12 @@
-use Rattle.std.proofs.Common.{◌∙◌}
+use Rattle.std.proofs.Common.{refl}
+use Rattle.bridge_printing.specs.Lines.{lines}
 use Rattle.bridge_tool.specs.declared.status.Status.TheVariants as status
 use Rattle.bridge_tool.specs.inside.Answering.{TellsOf}
 use Rattle.bridge_tool.proofs.RunLemmas.{printed_text}
 use Rattle.bridge_tool.proofs.program.refuse.Goals as goal
 
-pub returns-in-Ok : goal.returns-in-Ok
-returns-in-Ok g c = λ modules refused.
+pub returns : goal.returns
+returns g c = λ input refused.
     rw c.ended.ensures
-    (printed_text (TellsOf modules) status.Refused _ c.print_text-printed.result (λ whole. whole) c.print_text-printed.ensures
-    (c.args.reports.now, refused, c.as_str.ensures.value ∙ c.in-Ok.ensures))
+    (printed_text (TellsOf input) status.Refused (lines c.args.reports.now) c.print_reports-printed.result (λ whole. whole) c.print_reports-printed.ensures
+    (c.args.reports.now, refused, refl))

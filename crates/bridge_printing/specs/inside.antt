@@ -1,0 +1,3 @@
+-- What the calls tell one another.
+pub mod Arguments
+pub mod Segments
