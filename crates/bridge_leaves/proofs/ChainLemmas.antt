@@ -28,7 +28,8 @@ use Rattle.hir_nesting.proofs.Judging.{no_fault}
 use Rattle.hir_nesting.specs.Faults.{AllNestWell}
 use Rattle.hir_nesting.specs.Structs.{each_contained, struct_number, struct_numbers}
 use Rattle.hir_nesting.specs.declared.fault.NestingFault.TheVariants as fault
-use Rattle.hir_skeleton.proofs.Members.{first_is_there, later_is_there, mapped_from, member_cases, none_in_nothing}
+use Rattle.hir_skeleton.proofs.Containment.{AgreesBelow, Layer, edge_to, ids_inside, node, node_within, none_carried, place_of}
+use Rattle.hir_skeleton.proofs.Members.{first_is_there, later_is_there, member_cases, none_in_nothing}
 use Rattle.hir_skeleton.specs.Lowered.{carrier_of, field_skeleton, input_fields, skeleton_step}
 use Rattle.hir_skeleton.specs.Skeletons.{Skeleton, Nothing, Carrier, Struct}
 use Rattle.hir_types.specs.Paths.{returnable_id}
@@ -43,65 +44,20 @@ use Rattle.hir_types.specs.declared.types.HirType.TheFolds.{fold-roll-HirType, i
 
 -- ---- what is contained in a type is what its skeleton has
 
-abbrev ids_inside : Skeleton TypeId → List TypeId
-ids_inside Nothing = []
-ids_inside (Carrier lifetimes) = []
-ids_inside (Struct id args) = id ∷ []
-
-abbrev place_of : StructPath → TypeId
-place_of path = type.Struct path.tcx_id
-
-abbrev Layer : Type 0 → Type 0
-Layer = HirType-F Everywhere NoCallback Borrow ℕ StructPath NoTraitPath
-
-none_carried : (ls : List (MaybeStatic ℕ)) → [] ≡ ids_inside (carrier_of ls)
-none_carried [] = refl
-none_carried (l ∷ ls) = refl
-
-abbrev contained_layer : Layer (List TypeId) → List TypeId
-contained_layer = contained_step place_of
-
-abbrev contained_of : FieldType → List TypeId
-contained_of = contained_in_type place_of
-
 abbrev skeleton_layer : Layer (Skeleton TypeId) → Skeleton TypeId
 skeleton_layer = skeleton_step Some place_of (λ path. path.lifetimes) (λ path. path.owner)
 
-abbrev Agrees : FieldType → Type 0
-Agrees t = contained_of t ≡ ids_inside (field_skeleton t)
+keeps : (y : _) → AgreesBelow skeleton_layer y
+keeps (HirType-F.Primitive _) = refl
+keeps (HirType-F.Opaque path) = refl
+keeps (HirType-F.Struct path) = refl
+keeps (HirType-F.ImplTrait _) = refl
+keeps (HirType-F.Enum _) = refl
+keeps (HirType-F.Slice s) = none_carried _
+keeps (HirType-F.Callback _) = refl
+keeps (HirType-F.DiplomatOption inside) = inside.1
 
-abbrev LayerAgrees : Layer FieldType → Type 0
-LayerAgrees x = contained_layer (map-HirType _ _ _ _ _ _ _ _ contained_of x) ≡ ids_inside (skeleton_layer (map-HirType _ _ _ _ _ _ _ _ field_skeleton x))
-
-unfoldable Layered : Layer ((t : FieldType) × Agrees t) → Type 0
-Layered y = LayerAgrees (map-HirType _ _ _ _ _ _ _ _ (λ e. e.0) y)
-
-layer : (y : Layer ((t : FieldType) × Agrees t)) → Layered y
-unfolding Layered
-layer (HirType-F.Primitive _) = refl
-layer (HirType-F.Opaque path) = refl
-layer (HirType-F.Struct path) = refl
-layer (HirType-F.ImplTrait _) = refl
-layer (HirType-F.Enum _) = refl
-layer (HirType-F.Slice s) = none_carried _
-layer (HirType-F.Callback _) = refl
-layer (HirType-F.DiplomatOption inside) = inside.1
-
-type_agrees : (t : FieldType) → Agrees t
-unfolding Layered
-type_agrees = ind-HirType _ _ _ _ _ _ Agrees (λ x y is.
-    fold-roll-HirType _ _ _ _ _ _ (List TypeId) contained_layer x
-    ∙ subst LayerAgrees is (layer y)
-    ∙ ap ids_inside (sym (fold-roll-HirType _ _ _ _ _ _ (Skeleton TypeId) skeleton_layer x)))
-
--- ---- what stands in a struct is contained in it
-
-gives_there : {X Y : Type 0} (f : X → List Y) (xs : List X) (x : X) (y : Y) → Contains xs x → Contains (f x) y → Contains (flat_map f xs) y
-gives_there f [] x y h gives = absurd (none_in_nothing x h)
-gives_there f (z ∷ zs) x y h gives = elim (member_cases z x zs h) [
-  | inl is ↦ Contains-append_left (f z) (flat_map f zs) y (subst (λ w. Contains (f w) y) (sym is) gives)
-  | inr later ↦ Contains-append_right (f z) (flat_map f zs) y (gives_there f zs x y later gives)
-]
+-- ---- what an edge leads to is one of so many structs
 
 given_by : {X Y : Type 0} (f : X → List Y) (xs : List X) (y : Y) → Contains (flat_map f xs) y → (x : X) × Contains xs x × Contains (f x) y
 given_by f [] y h = absurd (none_in_nothing y h)
@@ -110,18 +66,6 @@ given_by f (z ∷ zs) y h = elim (Contains-append_cases (f z) (flat_map f zs) y 
   | inr r ↦ let of = given_by f zs y r in (of.0, later_is_there z of.0 zs of.1, of.2)
 ]
 
-none_or_all : {X : Type 0} (b : Bool) (xs : List X) (x : X) → Contains (cond b [] xs) x → Contains xs x
-none_or_all true xs x h = absurd (none_in_nothing x h)
-none_or_all false xs x h = h
-
-struct_contained : (def : InputStruct) (s : Skeleton TypeId) (id : TypeId) → Contains (input_fields def) s → Contains (ids_inside s) id
-    → Contains (contained_in place_of def.fields) id
-struct_contained def s id h inside =
-    let field = mapped_from (λ (f : StructField Everywhere NoCallback Borrow ℕ StructPath NoTraitPath). field_skeleton f.ty) def.fields s (none_or_all def.attrs.disable _ s h) in
-    gives_there (λ f. contained_of f.ty) def.fields field.0 id field.2
-    (subst (λ ids. Contains ids id) (sym (type_agrees field.0.ty ∙ ap ids_inside field.1)) inside)
-
--- what an edge leads to is one of so many structs
 one_here : (b : Bool) (n m : ℕ) → Contains (cond b (n ∷ []) []) m → (b ≡ true) × (n ≡ m)
 one_here true n m h = (refl, elim (member_cases n m [] h) [ inl is ↦ is | inr none ↦ absurd (none_in_nothing m none) ])
 one_here false n m h = absurd (none_in_nothing m h)
@@ -144,61 +88,18 @@ stands_inside count (Struct id args) m h =
 
 -- ---- and an edge of all structs leads there
 
-mapped_there : {X Y : Type 0} (f : X → Option Y) (xs : List X) (x : X) (y : Y) → Contains xs x → f x ≡ Some y → Contains (filter_map f xs) y
-mapped_there f [] x y h is = absurd (none_in_nothing x h)
-mapped_there {X} {Y} f (z ∷ zs) x y h is = elim (member_cases z x zs h) [
-  | inl same ↦ subst (λ o. Contains (cons_option o (filter_map f zs)) y) (sym (ap f same ∙ is)) (first_is_there y (filter_map f zs))
-  | inr later ↦ still (f z) (mapped_there f zs x y later is)
-] where
-  still : (o : Option Y) → Contains (filter_map f zs) y → Contains (cons_option o (filter_map f zs)) y
-  still None there = there
-  still (Some w) there = later_is_there w y (filter_map f zs) there
-
-get_behind : {X : Type 0} (xs ys : List X) (k : ℕ) → slice_get (xs ++ ys) (length xs + k) ≡ slice_get ys k
-get_behind [] ys k = ap (slice_get ys) (zero-add k)
-get_behind (x ∷ xs) ys k =
-    let next : suc (length xs) + k ≡ suc (length xs + k) = omega arith in
-    ap (slice_get (x ∷ (xs ++ ys))) next ∙ get_behind xs ys k
-
 module _ (defs : Definitions) where
-  abbrev out_rows : List (List TypeId)
-  out_rows = each_contained returnable_id defs.out_structs.defs
-
-  abbrev rows : List (List TypeId)
-  rows = each_contained place_of defs.structs.defs
-
-  abbrev node : ℕ → ℕ
-  node place = length out_rows + place
-
-  abbrev numbers_of : List TypeId → List ℕ
-  numbers_of = struct_numbers (length out_rows) (length rows)
-
-  as_many : length rows ≡ count defs
-  as_many = length-map defs.structs.defs (λ (d : InputStruct). contained_in place_of d.fields)
-
-  numbered : (place : ℕ) → place < length rows → struct_number (length out_rows) (length rows) (type.Struct place) ≡ Some (node place)
-  numbered place within = ap (λ (b : Bool). if b then Some (node place) else None) (lt-ltb place (length rows) within)
-
-  all_row_of : (place : ℕ) (def : InputStruct) → slice_get defs.structs.defs place ≡ Some def → successors (nesting_of defs) (node place) ≡ numbers_of (contained_in place_of def.fields)
-  all_row_of place def is =
-      get_or_from_slice_get (nesting_of defs) (node place) (numbers_of (contained_in place_of def.fields)) []
-      (slice_get-map numbers_of (out_rows ++ rows) (node place)
-      ∙ ap (option_map numbers_of) (get_behind out_rows rows place ∙ slice_get-map (λ (d : InputStruct). contained_in place_of d.fields) defs.structs.defs place ∙ ap (option_map (λ (d : InputStruct). contained_in place_of d.fields)) is))
-
   leads : (a b : ℕ) (def : InputStruct) → slice_get defs.structs.defs a ≡ Some def → Contains (structs_among (count defs) (input_fields def)) b
-      → Edge (nesting_of defs) (node a) (node b)
+      → Edge (nesting_of defs) (node defs a) (node defs b)
   leads a b def is h =
       let of = given_by (struct_here (count defs)) (input_fields def) b h in
       let there = stands_inside (count defs) of.0 b of.2 in
-      let many = as_many in
-      subst (λ row. Contains row (node b)) (sym (all_row_of a def is))
-      (mapped_there (struct_number (length out_rows) (length rows)) (contained_in place_of def.fields) (type.Struct b) (node b)
-      (struct_contained def of.0 (type.Struct b) of.1 there.0) (numbered b (omega (arith, there.1, many))))
+      edge_to skeleton_layer keeps defs a b def of.0 is there.1 of.1 there.0
 
   -- an edge leads from a struct that is there
-  edge_there : (a b : ℕ) → Edge (graph defs) a b → Edge (nesting_of defs) (node a) (node b)
+  edge_there : (a b : ℕ) → Edge (graph defs) a b → Edge (nesting_of defs) (node defs a) (node defs b)
   edge_there a b e = by_def (slice_get defs.structs.defs a) refl where
-    by_def : (o : Option InputStruct) → slice_get defs.structs.defs a ≡ o → Edge (nesting_of defs) (node a) (node b)
+    by_def : (o : Option InputStruct) → slice_get defs.structs.defs a ≡ o → Edge (nesting_of defs) (node defs a) (node defs b)
     by_def (Some def) is = leads a b def is (subst (λ row. Contains row b) (row_of defs a def is) e)
     by_def None is =
         let none : successors (graph defs) a ≡ [] =
@@ -211,28 +112,18 @@ module _ (defs : Definitions) where
         no_row (r ∷ g) zero e = absurd cc
         no_row (r ∷ g) (suc i) e = no_row g i e
 
-  chain_there : (a : ℕ) (others : List ℕ) → IsChain (graph defs) a others → IsChain (nesting_of defs) (node a) (map node others)
+  chain_there : (a : ℕ) (others : List ℕ) → IsChain (graph defs) a others → IsChain (nesting_of defs) (node defs a) (map (node defs) others)
   chain_there a [] chain = tt
   chain_there a (b ∷ others) chain = (edge_there a b chain.0, chain_there b others chain.1)
-
-  node_within : (place : ℕ) → place < length rows → node place < length (nesting_of defs)
-  node_within place within =
-      let all = length-map (out_rows ++ rows) numbers_of in
-      let both = length_both out_rows rows in
-      omega (arith, within, all, both)
-    where
-      length_both : (xs ys : List (List TypeId)) → length (xs ++ ys) ≡ length xs + length ys
-      length_both [] ys = sym (zero-add (length ys))
-      length_both (x ∷ xs) ys = let rest = length_both xs ys in omega (arith, rest)
 
   rows_count : length (graph defs) ≡ count defs
   rows_count = length-map defs.structs.defs (λ (d : InputStruct). structs_among (count defs) (input_fields d))
 
   graph_nests : AllNestWell (nesting_of defs) → AllNestWell (graph defs)
   graph_nests well a others within chain =
-      let many = as_many in let rows_ = rows_count in
-      let few = well (node a) (map node others) (node_within a (omega (arith, within, many, rows_))) (chain_there a others chain) in
-      let same = length-map others node in
+      let rows_ = rows_count in
+      let few = well (node defs a) (map (node defs) others) (node_within defs a (omega (arith, within, rows_))) (chain_there a others chain) in
+      let same = length-map others (node defs) in
       omega (arith, few, same)
 
   -- each struct is at the front of a longest chain, which has 256 structs at most
@@ -263,7 +154,3 @@ module _ (defs : Definitions) where
         let chain = longest (graph_nests well) sound n lt (slice_index_or depths n None) (deep.right n lt) in
         all.right n chain.0 256 lt chain.2 chain.1 ∙ ap (min most_counted) (sym (counted_at defs 256 n within args));
   }
-
--- in a context
-pub context_well : (tcx : TypeContext) → AllNestWell (nesting_of tcx.definitions)
-context_well tcx = ∥∥₁_elim tcx.fits (hlevel le_prop) (λ (fit : AllFit tcx.definitions). fit.nested)

@@ -6,7 +6,8 @@ use Rattle.std.specs.List.{sum_by}
 use Rattle.std.proofs.lemmas.Option.{get_or_from_slice_get, slice_get_read, slice_get_within}
 use Rattle.bridge_leaves.specs.inside.Counting.{all_own, graph_of, most_counted}
 use Rattle.bridge_leaves.specs.inside.Totals.{AreCounts, CountsInputs, CountsType}
-use Rattle.bridge_leaves.proofs.ChainLemmas.{context_well, totals_count}
+use Rattle.bridge_leaves.proofs.ChainLemmas.{totals_count}
+use Rattle.hir_skeleton.proofs.Containment.{context_well}
 use Rattle.bridge_leaves.proofs.CountLemmas.{fields_length, none_without, one_alone}
 use Rattle.bridge_leaves.proofs.RowLemmas.{joined_next, sum_more}
 use Rattle.bridge_report.proofs.Listed.{listed_callable}

@@ -8,3 +8,4 @@ pub mod Edging
 pub mod Own
 pub mod Outliving
 pub mod Positions
+pub mod Containment

@@ -1,6 +1,7 @@
 -- Members of lists.
-use Rattle.std.proofs.Common.{◌≡◌, ◌⊎◌, inl, inr, zero, suc, List, [], ◌∷◌, map, refl, subst, arith}
-use Rattle.std.specs.List.{Contains}
+use Rattle.std.proofs.Common.{◌≡◌, ◌⊎◌, inl, inr, zero, suc, Bool, true, false, cond, List, [], ◌∷◌, map, Option, Some, None, refl, sym, ap, subst, ◌∙◌, arith}
+use Rattle.std.specs.List.{Contains, cons_option, filter_map, flat_map}
+use Rattle.std.proofs.lemmas.List.Elements.{Contains-append_left, Contains-append_right}
 
 pub none_in_nothing : {A : Type 0} (x : A) → Contains [] x → ⊥
 none_in_nothing x h = let lt = h.1 in omega arith
@@ -32,3 +33,26 @@ mapped_from f (x ∷ xs) y h =
       | inl is ↦ (x, is, first_is_there x xs)
       | inr more ↦ let found = mapped_from f xs y more in (found.0, found.1, later_is_there x found.0 xs found.2)
     ]
+
+-- what a member gives is among all that members give
+pub gives_there : {X Y : Type 0} (f : X → List Y) (xs : List X) (x : X) (y : Y) → Contains xs x → Contains (f x) y → Contains (flat_map f xs) y
+gives_there f [] x y h gives = absurd (none_in_nothing x h)
+gives_there f (z ∷ zs) x y h gives = elim (member_cases z x zs h) [
+  | inl is ↦ Contains-append_left (f z) (flat_map f zs) y (subst (λ w. Contains (f w) y) (sym is) gives)
+  | inr later ↦ Contains-append_right (f z) (flat_map f zs) y (gives_there f zs x y later gives)
+]
+
+pub found_there : {X Y : Type 0} (f : X → Option Y) (xs : List X) (x : X) (y : Y) → Contains xs x → f x ≡ Some y → Contains (filter_map f xs) y
+found_there f [] x y h is = absurd (none_in_nothing x h)
+found_there {X} {Y} f (z ∷ zs) x y h is = elim (member_cases z x zs h) [
+  | inl same ↦ subst (λ o. Contains (cons_option o (filter_map f zs)) y) (sym (ap f same ∙ is)) (first_is_there y (filter_map f zs))
+  | inr later ↦ still (f z) (found_there f zs x y later is)
+] where
+  still : (o : Option Y) → Contains (filter_map f zs) y → Contains (cons_option o (filter_map f zs)) y
+  still None there = there
+  still (Some w) there = later_is_there w y (filter_map f zs) there
+
+-- of a list that may be left out
+pub none_or_all : {X : Type 0} (b : Bool) (xs : List X) (x : X) → Contains (cond b [] xs) x → Contains xs x
+none_or_all true xs x h = absurd (none_in_nothing x h)
+none_or_all false xs x h = h

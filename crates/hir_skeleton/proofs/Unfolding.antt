@@ -7,7 +7,7 @@ use Rattle.hir_skeleton.specs.Edges.{ShallowEdge, Whole, LeadsWithin, LeadsDown}
 use Rattle.hir_skeleton.proofs.Members.{none_in_nothing, first_is_there, member_cases}
 use Rattle.hir_skeleton.proofs.Passing.{passing_number, some_passes, passing_argument, argument_passes}
 use Rattle.hir_skeleton.proofs.Fields.{FromField, path_of_field, field_gives}
-use Rattle.hir_skeleton.proofs.Nesting.{type_paths, struct_paths, lists}
+use Rattle.hir_skeleton.proofs.Nesting.{type_paths, struct_paths}
 
 -- a list of at most the empty path
 pub the_empty_path : (b : Bool) (path : List ℕ) → Contains (cond b ([] ∷ []) []) path → (b ≡ true) × (path ≡ [])
