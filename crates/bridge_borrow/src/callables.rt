@@ -62,8 +62,8 @@ fn returned_lifetimes(
     Ok(returned)
 }
 
-/// The method of a callable, which fits the context.
-fn fitting_method<'tcx>(tcx: &'tcx TypeContext, id: &CallableId) -> &'tcx Method
+/// The method of a callable, which fits the context: the visitors of `hir_borrow` follow what it names.
+pub fn fitting_method<'tcx>(tcx: &'tcx TypeContext, id: &CallableId) -> &'tcx Method
     requires { IsSome (callable_at tcx.now.definitions id.now) }
     ensures there { method_at tcx.now.definitions id.now ≡ Some result.now }
     ensures fits { MethodFits tcx.now.definitions result.now }

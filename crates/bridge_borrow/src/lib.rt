@@ -22,4 +22,4 @@ mod edges;
 mod leaves;
 mod outliving;
 
-pub use callables::borrowings;
+pub use callables::{borrowings, fitting_method};

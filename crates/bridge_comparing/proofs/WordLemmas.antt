@@ -3,6 +3,9 @@ use Rattle.std.proofs.Common.{◌≡◌, ◌+◌, ℕ, Bool, Bor, true, false, c
 use Rattle.std.specs.Prelude.{◌↔◌, ◌==◌, ◌&&◌, IfSome, IsTrue, MatchOption, option_map}
 use Rattle.std.specs.Cmp.Lexicographic.{pointwise}
 use Rattle.std.specs.Fmt.{WritesText}
+use Rattle.std.specs.Bool.{one_answer}
+use Rattle.std.specs.Str.{bytes_eq}
+use Rattle.std.proofs.lemmas.Slice.Eq.{bytes_eq-Decides}
 use Rattle.std.specs.List.{FoldsTo, concat}
 use Rattle.std.proofs.lemmas.Bool.{eq-eqb, eqb-true}
 use Rattle.bridge_comparing.specs.Words.{after}
@@ -44,15 +47,19 @@ pub is_whole : (text : List ℕ) → after text (Some text) ≡ Some []
 is_whole [] = refl
 is_whole (x ∷ text) = ap (λ same. cond same (after text (Some text)) None) (eq-eqb x x refl) ∙ is_whole text
 
+-- a text that was taken whole
+pub told_whole : (text word : List ℕ) (left : Option (List ℕ)) → left ≡ after text (Some word) → (whole : Bool) → (IsTrue whole ↔ (left ≡ Some [])) → whole ≡ bytes_eq text word
+told_whole text word left taken whole tells =
+    one_answer whole (bytes_eq text word)
+    ((λ yes. whole_is text word (sym taken ∙ tells.0 yes)), (λ is. tells.1 (taken ∙ ap (λ t. after t (Some word)) is ∙ is_whole word)))
+    (bytes_eq-Decides text word)
+
 -- so it is of what is shown
 pub shown_is : (o : Option (List ℕ)) (word : List ℕ) (first last : Option (List ℕ)) → first ≡ Some word
-    → WritesText (λ old piece new. new ≡ after piece old) first o last → (same : Bool) → (IsTrue same ↔ (last ≡ Some [])) → IfSome o (λ text. IsTrue same ↔ (text ≡ word))
+    → WritesText (λ old piece new. new ≡ after piece old) first o last → (same : Bool) → (IsTrue same ↔ (last ≡ Some [])) → IfSome o (λ text. same ≡ bytes_eq text word)
 shown_is None word first last whole wrote same tells = tt
 shown_is (Some text) word first last whole wrote same tells =
-    let left : last ≡ after text (Some word) = after_all wrote.parts first last wrote.calls ∙ ap (λ t. after t first) wrote.whole ∙ ap (after text) whole in (
-      (λ yes. whole_is text word (sym left ∙ tells.0 yes)),
-      (λ is. tells.1 (left ∙ ap (λ t. after t (Some word)) is ∙ is_whole word)),
-    )
+    told_whole text word last (after_all wrote.parts first last wrote.calls ∙ ap (λ t. after t first) wrote.whole ∙ ap (after text) whole) same tells
 
 -- ---- a piece at the front
 

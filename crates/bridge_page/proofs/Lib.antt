@@ -2,4 +2,4 @@ mod TextLemmas
 mod WalkLemmas
 mod InputLemmas
 mod EdgeLemmas
-mod PageLemmas
+pub mod PageLemmas

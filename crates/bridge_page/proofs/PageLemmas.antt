@@ -105,7 +105,7 @@ module _ (defs : Definitions) where
   -- ---- a callable
 
   -- a report of the callable of its id
-  abbrev Known : Callable → CallableReport → Type 0
+  abbrev pub Known : Callable → CallableReport → Type 0
   Known c report = (callable_at defs report.callable ≡ Some c) × IsReported c report
 
   callable_is_text : (c : Callable) (report : CallableReport) → Known c report → IsCallableText c (callable_text defs report)
@@ -138,7 +138,7 @@ module _ (defs : Definitions) where
       let same : report.callable ≡ id = told.0.callable ∙ ap (λ (c : Callable). c.id) w.2 in
       ((ap (callable_at defs) same ∙ parts.0, told.0), known_each ids cs reports parts.1 told.1)
 
-  known : (reports : List CallableReport) → AreReported (callables defs) reports → AllZip Known (callables defs) reports
+  pub known : (reports : List CallableReport) → AreReported (callables defs) reports → AllZip Known (callables defs) reports
   known reports told = known_each (ids_of defs) (callables defs) reports (gathered_give defs (flat_map type_ids (all_types defs)) (ids_of defs) refl refl) told
 
   -- of each report that a loop reads there is a callable

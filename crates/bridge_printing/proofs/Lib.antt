@@ -1,3 +1,3 @@
 mod ArgumentLemmas
-mod SegmentLemmas
-mod ReportLemmas
+pub mod SegmentLemmas
+pub mod ReportLemmas
