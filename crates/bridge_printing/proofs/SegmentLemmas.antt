@@ -42,7 +42,7 @@ any_more : (after : Bool) (xs ys : List (List ℕ)) → any_after after (xs ++ y
 any_more after [] ys = refl
 any_more after (x ∷ xs) ys = sym (any_then ys)
 
-joined_rest : (separator text : List ℕ) (texts : List (List ℕ)) → joined separator (text ∷ texts) ≡ join_by (λ s. s) separator (text ∷ texts)
+pub joined_rest : (separator text : List ℕ) (texts : List (List ℕ)) → joined separator (text ∷ texts) ≡ join_by (λ s. s) separator (text ∷ texts)
 joined_rest separator text [] = sym (append-nil text)
 joined_rest separator text (next ∷ texts) =
     ap (λ t. text ++ separator ++ t) (joined_rest separator next texts)
