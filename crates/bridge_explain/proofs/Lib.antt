@@ -1,0 +1,6 @@
+mod Taking
+mod Finding
+mod Reports
+mod Carried
+mod Asking
+mod Receiver

@@ -1,0 +1,4 @@
+pub mod Asked
+pub mod Explained
+pub mod Lines
+pub mod inside
