@@ -9,7 +9,7 @@ use Rattle.bridge_places.specs.Places.{places_of}
 use Rattle.bridge_places.specs.declared.kinds.Kind.{Kind}
 use Rattle.bridge_places.specs.declared.kinds.Kind.TheVariants as kind
 use Rattle.bridge_report.specs.Callables.{Callable}
-use Rattle.bridge_report.specs.InContext.{callables, enum_callables, function_callables, opaque_callables, out_struct_callables, struct_callables, type_callables_at as context_callables}
+use Rattle.bridge_report.specs.InContext.{callables, enum_callables, function_callables, opaque_callables, out_struct_callables, struct_callables, type_callables}
 use Rattle.hir_context.specs.Lookups.{InputStruct, OutputStruct}
 use Rattle.hir_context.specs.declared.parts.Definitions.{Definitions}
 use Rattle.hir_definitions.specs.declared.definitions.EnumDef.{EnumDef}
@@ -148,7 +148,7 @@ module _ (it : Interface) (defs : Definitions) (is_catalog : IsCatalog it.module
   -- ---- types
 
   of_type : (id : ℕ → TypeId) (name : List ℕ) (methods : List Method) (k : ℕ) (place : ItemPlace) → AreReadAsDeclared it (fields_in defs) methods place → IsNamedThere it place name methods
-      → context_callables defs (id k) (path place) name methods ≡ type_callables_at it id (k, place)
+      → type_callables defs (id k) (path place) name methods ≡ type_callables_at it id (k, place)
   of_type id name methods k place read named =
       methods_same it defs (context_fields it defs stands is_catalog) names_agree (id k) (path place) name place refl named.name_is 0 methods _ read named.methods_are
 
@@ -161,10 +161,10 @@ module _ (it : Interface) (defs : Definitions) (is_catalog : IsCatalog it.module
   -- of all definitions of a kind
   of_kind : {D : Type 0} (name : D → List ℕ) (methods : D → List Method) (id : ℕ → TypeId) (k : Kind) (ds : List D) (modules : List (List (List ℕ))) → modules ≡ map path (places_of it.modules k)
       → AllZip (λ def place. AreReadAsDeclared it (fields_in defs) (methods def) place) ds (places_of it.modules k) → AllZip (λ def place. IsNamedThere it place (name def) (methods def)) ds (places_of it.modules k)
-      → flat_map (λ (numbered : ℕ × D). context_callables defs (id numbered.0) (slice_index_or modules numbered.0 []) (name numbered.1) (methods numbered.1)) (enumerate_from 0 ds) ≡ kind_callables it k id
+      → flat_map (λ (numbered : ℕ × D). type_callables defs (id numbered.0) (slice_index_or modules numbered.0 []) (name numbered.1) (methods numbered.1)) (enumerate_from 0 ds) ≡ kind_callables it k id
   of_kind {D} name methods id k ds modules modules_are read named =
       walked modules path (λ (def : D) place. AreReadAsDeclared it (fields_in defs) (methods def) place × IsNamedThere it place (name def) (methods def))
-      (λ p n def. context_callables defs (id n) p (name def) (methods def)) (type_callables_at it id) (λ n def place both. of_type id (name def) (methods def) n place both.0 both.1) 0 ds (places_of it.modules k)
+      (λ p n def. type_callables defs (id n) p (name def) (methods def)) (type_callables_at it id) (λ n def place both. of_type id (name def) (methods def) n place both.0 both.1) 0 ds (places_of it.modules k)
       (both_zipped (λ (def : D) place. AreReadAsDeclared it (fields_in defs) (methods def) place) (λ (def : D) place. IsNamedThere it place (name def) (methods def)) ds (places_of it.modules k) read named)
       (numbered_paths k modules modules_are)
 
