@@ -2,8 +2,8 @@
 use Rattle.std.specs.Prelude.{ℕ, List, [], ◌∷◌, ◌==◌, Option, Some, None, cond}
 
 -- nothing is left where the text isn't at the front
-abbrev pub after : List ℕ → Option (List ℕ) → Option (List ℕ)
-after [] left = left
-after (x ∷ text) None = None
-after (x ∷ text) (Some []) = None
-after (x ∷ text) (Some (y ∷ left)) = cond (y == x) (after text (Some left)) None
+abbrev pub once_taken : List ℕ → Option (List ℕ) → Option (List ℕ)
+once_taken [] left = left
+once_taken (x ∷ text) None = None
+once_taken (x ∷ text) (Some []) = None
+once_taken (x ∷ text) (Some (y ∷ left)) = cond (y == x) (once_taken text (Some left)) None

@@ -1,7 +1,7 @@
 //! A word, as far as it is left.
 
 ghost use Rattle.std.specs.Prelude.{◌≡◌, ◌↔◌, [], IsTrue, Some, option_map};
-ghost use Rattle.bridge_comparing.specs.Words.{after};
+ghost use Rattle.bridge_comparing.specs.Words.{once_taken};
 
 use std::fmt;
 use std::marker::Model;
@@ -22,7 +22,7 @@ impl<'w> Model for Comparing<'w> {
 
 /// What is left of this once the piece is taken off its front.
 fn without<'w>(left: &'w [u8], piece: &[u8]) -> Option<&'w [u8]>
-    ensures { option_map (λ left. left.now) result ≡ after piece.now (Some left.now) }
+    ensures { option_map (λ left. left.now) result ≡ once_taken piece.now (Some left.now) }
 {
     left.strip_prefix(piece)
 }
@@ -39,7 +39,7 @@ impl<'w> Comparing<'w> {
 
     /// Takes a piece off the front.
     pub fn take(&mut self, piece: &str)
-        ensures { self.new ≡ after piece.now self.old }
+        ensures { self.new ≡ once_taken piece.now self.old }
     {
         match self.left {
             Some(left) => self.left = without(left, piece.as_bytes()),
@@ -60,7 +60,7 @@ impl<'w> Comparing<'w> {
 
 /// Takes each piece that is written. No write fails.
 impl<'w> fmt::Write for Comparing<'w> {
-    ghost write_str_gives = { λ old piece new. new ≡ after piece old };
+    ghost write_str_gives = { λ old piece new. new ≡ once_taken piece old };
 
     fn write_str(&mut self, s: &str) -> fmt::Result {
         self.take(s);

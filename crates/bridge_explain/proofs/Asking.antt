@@ -27,7 +27,7 @@ use Rattle.bridge_report.specs.InContext.{callable_of, method_at, receiver_name}
 use Rattle.bridge_report.specs.Page.{leaf_text}
 use Rattle.bridge_report.specs.declared.report.CallableReport.{CallableReport}
 use Rattle.bridge_report.specs.declared.report.ReturnedLifetime.{ReturnedLifetime}
-use Rattle.bridge_explain.specs.Asked.{Asked}
+use Rattle.bridge_explain.specs.Inquiry.{Inquiry}
 use Rattle.bridge_explain.specs.Explained.{AnswersQuestion, AsksNothing, callable_called, leaf_called}
 use Rattle.bridge_explain.specs.inside.Found.{AnswersInside, AsksInside, FindsLeaf, IsReportOf}
 use Rattle.bridge_explain.proofs.Carried.{carried_below}
@@ -110,7 +110,7 @@ module _ (defs : Definitions) (report : CallableReport) (c : Callable) (of : IsR
 some_same : {A : Type 0} {x y : A} → Some x ≡ Some y → x ≡ y
 some_same e = cc
 
-pub answers_inside : (callables : List Callable) (asked : Asked) (c : Callable) → callable_called asked.callable callables ≡ Some c → (o : Option Explanation)
+pub answers_inside : (callables : List Callable) (asked : Inquiry) (c : Callable) → callable_called asked.callable callables ≡ Some c → (o : Option Explanation)
     → AnswersInside c asked.leaf asked.lifetime o → AnswersQuestion callables asked o
 answers_inside callables asked c is None nothing = λ other leaf about.
     let same : other ≡ c = some_same (sym about.is_callable ∙ is) in
@@ -126,7 +126,7 @@ answers_inside callables asked c is (Some x) explained = record {
   kind = explained.kind;
 }
 
-pub answers_all : (defs : Definitions) (report : CallableReport) (callables : List Callable) (asked other : Asked) (c : Callable) → IsReportOf defs c report
+pub answers_all : (defs : Definitions) (report : CallableReport) (callables : List Callable) (asked other : Inquiry) (c : Callable) → IsReportOf defs c report
     → asked ≡ other → callable_called asked.callable callables ≡ Some c → (r : Result (Option Explanation) AllocError)
     → IfOk r (λ o. (c : Callable) → IsReportOf defs c report → AnswersInside c asked.leaf asked.lifetime o) → IfOk r (AnswersQuestion callables other)
 answers_all defs report callables asked other c of same is (Ok o) inside =
@@ -143,6 +143,6 @@ module _ {A : Type 0} (P : Type 0) (Q : A → Type 0) where
   found_some None x says is = absurd cc
   found_some (Some y) x says is = subst Q (some_same is) says
 
-pub no_such_callable : (callables : List Callable) (asked other : Asked) → asked ≡ other → callable_called asked.callable callables ≡ None → AsksNothing callables other
+pub no_such_callable : (callables : List Callable) (asked other : Inquiry) → asked ≡ other → callable_called asked.callable callables ≡ None → AsksNothing callables other
 no_such_callable callables asked other same none =
     subst (AsksNothing callables) same (λ c leaf about. let never : None ≡ Some c = sym none ∙ about.is_callable in absurd cc)

@@ -9,7 +9,7 @@ use Rattle.hir_reports.specs.Places.{context_text}
 use Rattle.hir_skeleton.specs.NamedLeaves.{NamedLeaf}
 use Rattle.bridge_report.specs.Callables.{Callable}
 use Rattle.bridge_report.specs.Page.{leaf_text}
-use Rattle.bridge_explain.specs.Asked.{Asked}
+use Rattle.bridge_explain.specs.Inquiry.{Inquiry}
 
 -- the first callable that is printed so
 abbrev pub callable_called : List ℕ → List Callable → Option Callable
@@ -20,17 +20,17 @@ abbrev pub leaf_called : List ℕ → List NamedLeaf → Option NamedLeaf
 leaf_called word leaves = find (λ leaf. bytes_eq (leaf_text leaf) word) leaves
 
 -- the names are those of this callable and this leaf, and the callable's return names the lifetime
-pub record AsksAbout (callables : List Callable) (asked : Asked) (c : Callable) (leaf : NamedLeaf) : Type 0 where
+pub record AsksAbout (callables : List Callable) (asked : Inquiry) (c : Callable) (leaf : NamedLeaf) : Type 0 where
   pub is_callable : callable_called asked.callable callables ≡ Some c
   pub is_leaf : leaf_called asked.leaf c.leaves ≡ Some leaf
   pub returned : Contains c.named (NonStatic asked.lifetime)
 
 -- they are those of none
-abbrev pub AsksNothing : List Callable → Asked → Type 0
+abbrev pub AsksNothing : List Callable → Inquiry → Type 0
 AsksNothing callables asked = (c : Callable) (leaf : NamedLeaf) → ¬ AsksAbout callables asked c leaf
 
 -- the explanation is a right one of what is asked about: a chain where the leaf is listed
-pub record IsExplained (callables : List Callable) (asked : Asked) (x : Explanation) : Type 0 where
+pub record IsExplained (callables : List Callable) (asked : Inquiry) (x : Explanation) : Type 0 where
   pub callable : Callable
   pub leaf : NamedLeaf
   pub about : AsksAbout callables asked callable leaf
@@ -38,6 +38,6 @@ pub record IsExplained (callables : List Callable) (asked : Asked) (x : Explanat
   pub kind : SaysListed x ↔ IsListed callable.environment leaf.carried asked.lifetime
 
 -- the answer
-abbrev pub AnswersQuestion : List Callable → Asked → Option Explanation → Type 0
+abbrev pub AnswersQuestion : List Callable → Inquiry → Option Explanation → Type 0
 AnswersQuestion callables asked None = AsksNothing callables asked
 AnswersQuestion callables asked (Some x) = IsExplained callables asked x

@@ -1,4 +1,4 @@
-pub mod Asked
+pub mod Inquiry
 pub mod Explained
 pub mod Lines
 pub mod inside

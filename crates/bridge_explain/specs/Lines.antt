@@ -5,9 +5,9 @@ use Rattle.hir_explain.specs.declared.explanations.Explanation.{Explanation}
 use Rattle.hir_explain.specs.declared.explanations.Explanation.TheVariants.{Chain, Separating}
 
 -- numbers, each after a space
-abbrev pub spaced : List ℕ → List ℕ
-spaced numbers = flat_map (λ n. codes " " ++ decimal n) numbers
+abbrev pub spaced_numbers : List ℕ → List ℕ
+spaced_numbers numbers = flat_map (λ n. codes " " ++ decimal n) numbers
 
 abbrev pub explanation_line : Explanation → List ℕ
-explanation_line (Chain chain) = codes "chain" ++ spaced chain ++ codes "\n"
-explanation_line (Separating long) = codes "long" ++ spaced long ++ codes "\n"
+explanation_line (Chain chain) = codes "chain" ++ spaced_numbers chain ++ codes "\n"
+explanation_line (Separating long) = codes "long" ++ spaced_numbers long ++ codes "\n"

@@ -3,7 +3,7 @@
 ghost use Rattle.std.specs.Prelude.{◌≡◌, ◌++◌, codes, option_map, IfSome, IsSome, MatchOption, None};
 ghost use Rattle.std.specs.List.{join_by};
 ghost use Rattle.std.specs.Str.{bytes_eq};
-ghost use Rattle.bridge_comparing.specs.Words.{after};
+ghost use Rattle.bridge_comparing.specs.Words.{once_taken};
 ghost use Rattle.bridge_explain.specs.Explained.{callable_called};
 ghost use Rattle.bridge_explain.specs.inside.Found.{FindsCallable};
 ghost use Rattle.bridge_printing.specs.inside.Segments.{any_after, joined_after, root_text, separator_if};
@@ -19,7 +19,7 @@ use hir_context::TypeContext;
 
 /// Takes what stands between two segments, where there is one before.
 fn take_colons(left: &mut Comparing<'_>, is_after: bool)
-    ensures { left.new ≡ after (separator_if is_after) left.old }
+    ensures { left.new ≡ once_taken (separator_if is_after) left.old }
 {
     if is_after {
         left.take("::");
@@ -28,7 +28,7 @@ fn take_colons(left: &mut Comparing<'_>, is_after: bool)
 
 /// Takes a segment.
 fn take_segment(left: &mut Comparing<'_>, is_after: bool, segment: &str)
-    ensures { left.new ≡ after (separator_if is_after ++ segment.now) left.old }
+    ensures { left.new ≡ once_taken (separator_if is_after ++ segment.now) left.old }
 {
     take_colons(left, is_after);
     left.take(segment);
@@ -36,7 +36,7 @@ fn take_segment(left: &mut Comparing<'_>, is_after: bool, segment: &str)
 
 /// Takes the path of a module.
 fn take_module(left: &mut Comparing<'_>, path: &[Text])
-    ensures { left.new ≡ after (join_by (λ segment. segment) (codes "::") path.now) left.old }
+    ensures { left.new ≡ once_taken (join_by (λ segment. segment) (codes "::") path.now) left.old }
 {
     for (place, segment) in path.iter().enumerate() {
         take_segment(left, place > 0, segment.as_str());
@@ -45,7 +45,7 @@ fn take_module(left: &mut Comparing<'_>, path: &[Text])
 
 /// Takes an item, unless its name is empty. The answer is whether there is a segment now.
 fn take_item(left: &mut Comparing<'_>, is_after: bool, item: &str) -> bool
-    ensures taken { left.new ≡ after (joined_after is_after (named_segments item.now)) left.old }
+    ensures taken { left.new ≡ once_taken (joined_after is_after (named_segments item.now)) left.old }
     ensures any { result ≡ any_after is_after (named_segments item.now) }
 {
     if item.is_empty() {
@@ -57,7 +57,7 @@ fn take_item(left: &mut Comparing<'_>, is_after: bool, item: &str) -> bool
 
 /// Takes the method, where there is one. The answer is whether there is a segment now.
 fn take_method(left: &mut Comparing<'_>, is_after: bool, method: Option<&str>) -> bool
-    ensures taken { left.new ≡ after (joined_after is_after
+    ensures taken { left.new ≡ once_taken (joined_after is_after
         (subitem_segments (option_map (λ name. name.now) method.entry))) left.old }
     ensures any { result ≡ any_after is_after
         (subitem_segments (option_map (λ name. name.now) method.entry)) }
@@ -73,7 +73,7 @@ fn take_method(left: &mut Comparing<'_>, is_after: bool, method: Option<&str>) -
 
 /// Takes what is printed where there is no segment.
 fn take_root(left: &mut Comparing<'_>, is_after: bool)
-    ensures { left.new ≡ after (root_text is_after) left.old }
+    ensures { left.new ≡ once_taken (root_text is_after) left.old }
 {
     if !is_after {
         left.take("root module");

@@ -1,7 +1,7 @@
 //! The lines of explanations.
 
 ghost use Rattle.std.specs.Prelude.{◌++◌, codes, decimal};
-ghost use Rattle.bridge_explain.specs.Lines.{explanation_line, spaced};
+ghost use Rattle.bridge_explain.specs.Lines.{explanation_line, spaced_numbers};
 ghost use Rattle.bridge_outside.specs.Printing.{Delivers, Prints};
 
 use bridge_outside::{Printer, Sink, SinkFault, finish, put_number, put_text};
@@ -19,7 +19,8 @@ fn put_after_space<K: Sink>(sink: &mut K, out: &mut Printer, lifetime: Lifetime)
 
 /// Numbers, each after a space.
 fn put_spaced<K: Sink>(sink: &mut K, out: &mut Printer, lifetimes: &[Lifetime])
-    ensures { Prints (K.state sink.old) out.old (K.state sink.new) out.new (spaced lifetimes.now) }
+    ensures { Prints (K.state sink.old) out.old (K.state sink.new) out.new
+        (spaced_numbers lifetimes.now) }
 {
     for lifetime in lifetimes {
         put_after_space(sink, out, *lifetime);

@@ -14,9 +14,9 @@ pub struct Question<'w> {
 }
 
 impl<'w> Model for Question<'w> {
-    ghost use Rattle.bridge_explain.specs.Asked.{Asked};
+    ghost use Rattle.bridge_explain.specs.Inquiry.{Inquiry};
 
-    ghost Value = { Asked };
+    ghost Value = { Inquiry };
 
     ghost view = { λ it. record {
       callable = it.callable.now;

@@ -2,20 +2,30 @@
 use Rattle.std.proofs.Common.{◌≡◌, ◌≢◌, ℕ, ◌≤◌, ◌<◌, ◌^◌, List, [], ◌∷◌, length, Option, Some, refl, sym, ap, subst, ◌∙◌, arith, inl, inr}
 use Rattle.std.specs.Prelude.{◌⊎◌, IfSome, String}
 use Rattle.std.specs.declared.alloc.Global.{Global}
+use Rattle.bridge_catalogs.proofs.CatalogLemmas.{one_catalog}
+use Rattle.bridge_decl.specs.declared.modules.Module.{Module}
+use Rattle.bridge_explain.specs.Inquiry.{Inquiry as Question}
+use Rattle.bridge_lowering.specs.Broken.{HoldsOf}
+use Rattle.bridge_order.specs.declared.catalog.Catalog.{Catalog}
+use Rattle.hir_backends.specs.Backend.{Backend}
+use Rattle.hir_config.specs.declared.config.LoweringConfig.{LoweringConfig}
+use Rattle.hir_lowering.specs.Interface.{Interface}
+use Rattle.hir_lowering.specs.Walks.{interface_of}
+use Rattle.hir_naming.specs.Meaning.{naming_of}
 use Rattle.bridge_read.specs.declared.input.Input.{Input}
 use Rattle.bridge_read.proofs.InputLaws.{spelled_once}
 use Rattle.bridge_outside.specs.Outside.{SourceState}
 use Rattle.bridge_tool.specs.declared.status.Status.{Status}
 use Rattle.bridge_tool.specs.declared.status.Status.TheVariants as status
-use Rattle.bridge_tool.specs.Checking.{BreaksNothing, HasPage, IsRefusedWith}
+use Rattle.bridge_tool.specs.Checking.{BreaksNothing, ExplainsNothing, HasExplanation, HasPage, IsRefusedWith}
 use Rattle.bridge_tool.specs.Declining.{AreFaulty}
-use Rattle.bridge_tool.specs.Headline.{AnswersInput, Headline, IsComplete, IsUndisturbed, Settles, SettlesCheck, SettlesLinks}
+use Rattle.bridge_tool.specs.Headline.{AnswersInput, Headline, IsComplete, IsUndisturbed, Settles, SettlesCheck, SettlesExplain, SettlesLinks}
 use Rattle.hir_reports.specs.declared.report.LoweringReport.{LoweringReport}
 use Rattle.bridge_read.specs.Inputs.{SpellsInput}
 use Rattle.bridge_tool.specs.Commands.{AskFor}
 use Rattle.bridge_tool.specs.Running.{World, Asked, IsAnswered, Says, WereRead}
 use Rattle.bridge_tool.specs.declared.command.Command.{Command}
-use Rattle.bridge_tool.specs.declared.command.Command.TheVariants.{Check, Links}
+use Rattle.bridge_tool.specs.declared.command.Command.TheVariants.{Check, Explain, Links}
 use Rattle.bridge_tool.specs.Statuses.{code_of}
 use Rattle.std.specs.List.{Contains}
 
@@ -54,6 +64,12 @@ answered_as : (words : List (String Global)) (old new : World) (asked : Command)
 answered_as words old new asked end r asks =
     subst (λ (command : Command). IsAnswered command old new end) (same_command words r.0 asked r.1 asks) r.2
 
+-- with 6 too
+answered_six : (words : List (String Global)) (old new : World) (asked : Command) → Says words old new status.BadWords → AskFor words asked
+    → IsAnswered asked old new status.BadWords
+answered_six words old new asked (inl r) asks = absurd (r.0 (asked, asks))
+answered_six words old new asked (inr r) asks = answered_as words old new asked status.BadWords r asks
+
 -- the headline, for each status but that of want of memory
 answers_end : (words : List (String Global)) (old new : World) (had : List ℕ) (input : Input) (end : Status) → Says words old new end
     → IsUndisturbed words Check old new had → length had ≤ 2 ^ 26 → SpellsInput had input → code_of end ≢ 5 → AnswersInput input old new (code_of end)
@@ -87,7 +103,7 @@ answers_end words old new had input status.NotDeclarations r told short spells m
 answers_end words old new had input status.ReadFailed r told short spells memory = absurd (told.no_read_failed r.1)
 answers_end words old new had input status.WriteFailed r told short spells memory = absurd (told.no_write_failed r.2.0)
 answers_end words old new had input status.NoMemory r told short spells memory = absurd (memory refl)
-answers_end words old new had input status.BadWords r told short spells memory = absurd (r.0 (Check, told.command))
+answers_end words old new had input status.BadWords r told short spells memory = absurd (answered_six words old new Check r told.command).2.1
 answers_end words old new had input status.TooLong r told short spells memory = absurd (let long = if_told (λ all. 2 ^ 26 < length all) r.1.long told.told in omega arith)
 
 pub headline_of : (words : List (String Global)) (old new : World) (end : Status) → Says words old new end → Headline words old new (code_of end)
@@ -142,7 +158,7 @@ settles_check words old new had status.NotDeclarations r told =
 settles_check words old new had status.ReadFailed r told = absurd (told.no_read_failed r.1)
 settles_check words old new had status.WriteFailed r told = absurd (told.no_write_failed r.2.0)
 settles_check words old new had status.NoMemory r told = inl refl
-settles_check words old new had status.BadWords r told = absurd (r.0 (Check, told.command))
+settles_check words old new had status.BadWords r told = absurd (answered_six words old new Check r told.command).2.1
 settles_check words old new had status.TooLong r told = inr (long_settles had (if_told (λ all. 2 ^ 26 < length all) r.1.long told.told))
 
 -- bytes that spell an input are answered by `links`, others are declined
@@ -184,12 +200,105 @@ settles_links words old new had status.NotDeclarations r told =
 settles_links words old new had status.ReadFailed r told = absurd (told.no_read_failed r.1)
 settles_links words old new had status.WriteFailed r told = absurd (told.no_write_failed r.2.0)
 settles_links words old new had status.NoMemory r told = inl refl
-settles_links words old new had status.BadWords r told = absurd (r.0 (Links, told.command))
+settles_links words old new had status.BadWords r told = absurd (answered_six words old new Links r told.command).2.1
 settles_links words old new had status.TooLong r told = inr (long_settles_links had (if_told (λ all. 2 ^ 26 < length all) r.1.long told.told))
+
+-- ---- `explain`
+
+-- there is one catalog, so what holds by one holds by all
+by_one : {modules : List Module} {backend : Backend} {config : LoweringConfig} {P Q : Interface → Type 0} → HoldsOf modules backend config P
+    → HoldsOf modules backend config Q → (it : Interface) × P it × Q it
+by_one {modules} {backend} {config} {P} {Q} one other =
+    let at = λ (catalog : Catalog). interface_of modules backend config (naming_of modules) catalog in
+    (at one.catalog, one.holds, subst (λ catalog. Q (at catalog)) (sym (one_catalog modules one.catalog other.catalog one.is other.is)) other.holds)
+
+-- where something is explained, something is asked about
+asks_something : (input : Input) (question : Question) (text : List ℕ) → HasExplanation input question text → ¬ (ExplainsNothing input question)
+asks_something input question text has = λ nothing.
+    let both = by_one has nothing in
+    both.2 both.1.1.callable both.1.1.leaf both.1.1.about
+
+explained_settles : (question : Question) (had : List ℕ) (input : Input) → length had ≤ 2 ^ 26 → SpellsInput had input → BreaksNothing input
+    → ¬ (ExplainsNothing input question) → SettlesExplain question had 0
+explained_settles question had input short spells keeps asks = record {
+  accepted = (λ e. (short, (input, spells, keeps, asks)), λ row. refl);
+  refused = (λ e. absurd (omega arith), λ row. absurd (row.1.2 (subst BreaksNothing (spelled_once had input row.1.0 spells row.1.1) keeps)));
+  declined = (λ e. absurd (omega arith), λ row. absurd (row.1 input spells));
+  nothing = (
+    λ e. absurd (omega arith),
+    λ row. absurd (asks (subst (λ (i : Input). ExplainsNothing i question) (spelled_once had row.1.0 input row.1.1 spells) row.1.3)),
+  );
+  too_long = (λ e. absurd (omega arith), λ long. absurd (omega arith));
+}
+
+nothing_settles : (question : Question) (had : List ℕ) (input : Input) → length had ≤ 2 ^ 26 → SpellsInput had input → BreaksNothing input
+    → ExplainsNothing input question → SettlesExplain question had 6
+nothing_settles question had input short spells keeps nothing = record {
+  accepted = (
+    λ e. absurd (omega arith),
+    λ row. absurd (row.1.3 (subst (λ (i : Input). ExplainsNothing i question) (spelled_once had input row.1.0 spells row.1.1) nothing)),
+  );
+  refused = (λ e. absurd (omega arith), λ row. absurd (row.1.2 (subst BreaksNothing (spelled_once had input row.1.0 spells row.1.1) keeps)));
+  declined = (λ e. absurd (omega arith), λ row. absurd (row.1 input spells));
+  nothing = (λ e. (short, (input, spells, keeps, nothing)), λ row. refl);
+  too_long = (λ e. absurd (omega arith), λ long. absurd (omega arith));
+}
+
+broken_settles : (question : Question) (had : List ℕ) (input : Input) → length had ≤ 2 ^ 26 → SpellsInput had input → ¬ (BreaksNothing input)
+    → SettlesExplain question had 1
+broken_settles question had input short spells breaks = record {
+  accepted = (λ e. absurd (omega arith), λ row. absurd (breaks (subst BreaksNothing (spelled_once had row.1.0 input row.1.1 spells) row.1.2)));
+  refused = (λ e. (short, (input, spells, breaks)), λ row. refl);
+  declined = (λ e. absurd (omega arith), λ row. absurd (row.1 input spells));
+  nothing = (λ e. absurd (omega arith), λ row. absurd (breaks (subst BreaksNothing (spelled_once had row.1.0 input row.1.1 spells) row.1.2)));
+  too_long = (λ e. absurd (omega arith), λ long. absurd (omega arith));
+}
+
+none_settles : (question : Question) (had : List ℕ) → length had ≤ 2 ^ 26 → ((input : Input) → ¬ (SpellsInput had input)) → SettlesExplain question had 2
+none_settles question had short none = record {
+  accepted = (λ e. absurd (omega arith), λ row. absurd (none row.1.0 row.1.1));
+  refused = (λ e. absurd (omega arith), λ row. absurd (none row.1.0 row.1.1));
+  declined = (λ e. (short, none), λ row. refl);
+  nothing = (λ e. absurd (omega arith), λ row. absurd (none row.1.0 row.1.1));
+  too_long = (λ e. absurd (omega arith), λ long. absurd (omega arith));
+}
+
+too_long_settles : (question : Question) (had : List ℕ) → 2 ^ 26 < length had → SettlesExplain question had 7
+too_long_settles question had long = record {
+  accepted = (λ e. absurd (omega arith), λ row. absurd (let short = row.0 in omega arith));
+  refused = (λ e. absurd (omega arith), λ row. absurd (let short = row.0 in omega arith));
+  declined = (λ e. absurd (omega arith), λ row. absurd (let short = row.0 in omega arith));
+  nothing = (λ e. absurd (omega arith), λ row. absurd (let short = row.0 in omega arith));
+  too_long = (λ e. long, λ row. refl);
+}
+
+settles_explain : (words : List (String Global)) (old new : World) (had : List ℕ) (question : Question) (end : Status) → Says words old new end
+    → IsUndisturbed words (Explain question) old new had → (code_of end ≡ 5) ⊎ SettlesExplain question had (code_of end)
+settles_explain words old new had question status.Accepted r told =
+    let answered = answered_as words old new (Explain question) status.Accepted r told.command in let answer = answered.2.1 in
+    inr (explained_settles question had answer.0 (read_short answered.1 told.told) (spells_told answer.0 answered.1 told.told answer.1) answer.2
+    (asks_something answer.0 question answered.2.0 answer.3))
+settles_explain words old new had question status.Refused r told =
+    let answered = answered_as words old new (Explain question) status.Refused r told.command in let answer = answered.2.1 in
+    inr (broken_settles question had answer.0 (read_short answered.1 told.told) (spells_told answer.0 answered.1 told.told answer.2)
+    (refused_breaks answer.0 answer.1 answer.3))
+settles_explain words old new had question status.NotDeclarations r told =
+    let answered = answered_as words old new (Explain question) status.NotDeclarations r told.command in
+    inr (none_settles question had (read_short answered.1 told.told)
+    (subst (λ (b : List ℕ). AreFaulty b answered.2.0) (read_told answered.1 told.told) answered.2.1).fault.nothing)
+settles_explain words old new had question status.ReadFailed r told = absurd (told.no_read_failed r.1)
+settles_explain words old new had question status.WriteFailed r told = absurd (told.no_write_failed r.2.0)
+settles_explain words old new had question status.NoMemory r told = inl refl
+settles_explain words old new had question status.BadWords r told =
+    let answered = answered_six words old new (Explain question) r told.command in let answer = answered.2.1 in
+    inr (nothing_settles question had answer.0 (read_short answered.1 told.told) (spells_told answer.0 answered.1 told.told answer.1) answer.2 answer.3)
+settles_explain words old new had question status.TooLong r told =
+    inr (too_long_settles question had (if_told (λ all. 2 ^ 26 < length all) r.1.long told.told))
 
 settles_end : (words : List (String Global)) (old new : World) (had : List ℕ) (end : Status) → Says words old new end
     → (command : Command) → IsUndisturbed words command old new had → (code_of end ≡ 5) ⊎ Settles command had (code_of end)
 settles_end words old new had end says Check told = settles_check words old new had end says told
+settles_end words old new had end says (Explain question) told = settles_explain words old new had question end says told
 settles_end words old new had end says Links told = settles_links words old new had end says told
 
 pub complete_of : (words : List (String Global)) (old new : World) (end : Status) → Says words old new end → IsComplete words old new (code_of end)

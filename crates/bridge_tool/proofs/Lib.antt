@@ -1,3 +1,4 @@
+mod DigitLemmas
 pub mod DeclaredLemmas
 pub mod DocsLemmas
 pub mod HeadlineLemmas

@@ -1,8 +1,12 @@
 -- What a run did, and what that says of its status.
-use Rattle.std.proofs.Common.{◌≡◌, ◌≢◌, ℕ, ◌<◌, List, [], ◌∷◌, length, Result, Ok, Err, refl, subst, ap, ◌∙◌, arith, inl, inr}
+use Rattle.std.proofs.Common.{◌≡◌, ℕ, ◌<◌, List, [], ◌∷◌, length, Result, Ok, Err, refl, subst, ap, ◌∙◌, arith, inl, inr}
 use Rattle.std.specs.Prelude.{◌⊎◌, String}
 use Rattle.std.specs.declared.alloc.Global.{Global}
-use Rattle.bridge_read.specs.Inputs.{SpellsInput}
+use Rattle.bridge_read.specs.Inputs.{IsToldOf, Refuses, SpellsInput}
+use Rattle.bridge_read.specs.declared.fault.InputKind.{InputKind}
+use Rattle.bridge_read.specs.declared.input.InputFault.{InputFault}
+use Rattle.bridge_read.specs.declared.input.InputFault.TheVariants.{NotDeclarations}
+use Rattle.bridge_tool.specs.Declining.{AreFaulty, fault_line}
 use Rattle.bridge_read.specs.declared.input.Input.{Input}
 use Rattle.bridge_outside.specs.declared.sink.SinkFault.{SinkFault}
 use Rattle.bridge_outside.specs.declared.sink.SinkFault.TheVariants.{Failed, NoMemory}
@@ -14,6 +18,8 @@ use Rattle.bridge_tool.specs.Following.{Follows}
 use Rattle.bridge_tool.specs.Commands.{AskFor}
 use Rattle.bridge_tool.specs.Running.{World, Answers, AnswersCheck, FirstPart, Ran, Says, WereRead}
 use Rattle.bridge_tool.specs.declared.command.Command.{Command}
+use Rattle.bridge_tool.specs.declared.command.Command.TheVariants.{Check, Explain, Links}
+use Rattle.bridge_outside.proofs.PrintingLaws.{taken_with-nothing}
 use Rattle.bridge_tool.specs.Statuses.{code_of}
 use Rattle.bridge_tool.specs.inside.Answering.{IsWhole, Printed, TellsOf, ended_with}
 
@@ -28,6 +34,16 @@ pub printed_text : (P : Status → List ℕ → Type 0) {old new : SinkState} (v
 printed_text P {old = old} verdict text (Ok done) whole d of = whole (text, of, record { taken = d.took ∙ ap (taken_with old.taken) d.whole; no_fault = d.steady })
 printed_text P verdict text (Err Failed) whole d of = (d.failed refl, first_part P verdict text (Err Failed) d of)
 printed_text P verdict text (Err NoMemory) whole d of = inr (first_part P verdict text (Err NoMemory) d of)
+
+-- the line that declines bytes is right
+pub declined : (bytes : List ℕ) (fault : InputFault) (what : InputKind) (pointer shown : List ℕ) → fault ≡ NotDeclarations what pointer → shown ≡ pointer
+    → IsToldOf bytes fault → Refuses bytes fault → AreFaulty bytes (fault_line what shown)
+declined bytes fault what pointer shown is same told refuses = record {
+  what = what;
+  pointer = pointer;
+  fault = record { nothing = subst (Refuses bytes) is refuses; told = subst (IsToldOf bytes) is told };
+  is = ap (fault_line what) same;
+}
 
 -- what tells of the declarations of the input that bytes spell answers the bytes
 tells_answers : (bytes : List ℕ) (input : Input) → SpellsInput bytes input → (end : Status) (text : List ℕ) → TellsOf input end text → AnswersCheck bytes end text
@@ -60,7 +76,7 @@ printed_answers bytes input old new status.ReadFailed spells p = absurd p
 printed_answers bytes input old new status.WriteFailed spells p = (p.0, part_answers bytes input old new spells p.1)
 printed_answers bytes input old new status.NoMemory spells (inl same) = inl same
 printed_answers bytes input old new status.NoMemory spells (inr part) = inr (part_answers bytes input old new spells part)
-printed_answers bytes input old new status.BadWords spells p = absurd p
+printed_answers bytes input old new status.BadWords spells p = absurd p.1
 printed_answers bytes input old new status.TooLong spells p = absurd p
 
 -- what was read was answered
@@ -73,12 +89,8 @@ says_answered words command old new bytes asks read status.ReadFailed p = absurd
 says_answered words command old new bytes asks read status.WriteFailed p = (command, asks, (p.0, (bytes, read, p.1)))
 says_answered words command old new bytes asks read status.NoMemory (inl same) = (command, asks, inl same)
 says_answered words command old new bytes asks read status.NoMemory (inr part) = (command, asks, inr (bytes, read, part))
-says_answered words command old new bytes asks read status.BadWords p = absurd p
+says_answered words command old new bytes asks read status.BadWords p = inr (command, asks, (bytes, read, p))
 says_answered words command old new bytes asks read status.TooLong p = absurd p
-
--- what was printed answers words that ask for a command
-pub printed_end : (P : Status → List ℕ → Type 0) (old new : SinkState) (end : Status) → Printed P old new end → end ≢ status.BadWords
-printed_end P old new end p = λ bad. subst (Printed P old new) bad p
 
 neither_of : {P Q : Type 0} → P ⊎ Q → ¬ P → ¬ Q → ⊥
 neither_of (inl p) no_p no_q = no_p p
@@ -89,6 +101,12 @@ none_of (inl p) no_p no_q no_r = no_p p
 none_of (inr (inl q)) no_p no_q no_r = no_q q
 none_of (inr (inr r)) no_p no_q no_r = no_r r
 
+-- with 6 there is no text
+no_text : (command : Command) (bytes text : List ℕ) → Answers command bytes status.BadWords text → text ≡ []
+no_text Check bytes text answer = absurd answer
+no_text (Explain question) bytes text answer = answer.4
+no_text Links bytes text answer = absurd answer
+
 -- what follows from the row of each status
 follows_end : (words : List (String Global)) (old new : World) (end : Status) → Says words old new end → Follows words old new (code_of end)
 follows_end words old new status.Accepted r = record {
@@ -98,7 +116,8 @@ follows_end words old new status.Accepted r = record {
   read_failed = λ e. absurd (omega arith);
   write_failed = λ e. absurd (omega arith);
   cut_short = λ e. absurd (neither_of e (omega arith) (omega arith));
-  bad_words = (λ e. absurd (omega arith), λ none. absurd (none (r.0, r.1)));
+  no_command = λ none. absurd (none (r.0, r.1));
+  bad_words = λ e. absurd (omega arith);
   too_long = λ e. absurd (omega arith);
   reads_steady = λ a b. r.2.1.no_fault;
   writes_steady = λ a b. r.2.2.2.no_fault;
@@ -112,7 +131,8 @@ follows_end words old new status.Refused r = record {
   read_failed = λ e. absurd (omega arith);
   write_failed = λ e. absurd (omega arith);
   cut_short = λ e. absurd (neither_of e (omega arith) (omega arith));
-  bad_words = (λ e. absurd (omega arith), λ none. absurd (none (r.0, r.1)));
+  no_command = λ none. absurd (none (r.0, r.1));
+  bad_words = λ e. absurd (omega arith);
   too_long = λ e. absurd (omega arith);
   reads_steady = λ a b. r.2.1.no_fault;
   writes_steady = λ a b. r.2.2.2.no_fault;
@@ -126,7 +146,8 @@ follows_end words old new status.NotDeclarations r = record {
   read_failed = λ e. absurd (omega arith);
   write_failed = λ e. absurd (omega arith);
   cut_short = λ e. absurd (neither_of e (omega arith) (omega arith));
-  bad_words = (λ e. absurd (omega arith), λ none. absurd (none (r.0, r.1)));
+  no_command = λ none. absurd (none (r.0, r.1));
+  bad_words = λ e. absurd (omega arith);
   too_long = λ e. absurd (omega arith);
   reads_steady = λ a b. r.2.1.no_fault;
   writes_steady = λ a b. r.2.2.2.no_fault;
@@ -140,7 +161,8 @@ follows_end words old new status.ReadFailed r = record {
   read_failed = λ e. r.1;
   write_failed = λ e. absurd (omega arith);
   cut_short = λ e. absurd (neither_of e (omega arith) (omega arith));
-  bad_words = (λ e. absurd (omega arith), λ none. absurd (none r.0));
+  no_command = λ none. absurd (none r.0);
+  bad_words = λ e. absurd (omega arith);
   too_long = λ e. absurd (omega arith);
   reads_steady = λ a b. absurd (a refl);
   writes_steady = λ a b. r.2.no_fault;
@@ -154,7 +176,8 @@ follows_end words old new status.WriteFailed r = record {
   read_failed = λ e. absurd (omega arith);
   write_failed = λ e. r.2.0;
   cut_short = λ e. (r.0, r.1, inr r.2.1);
-  bad_words = (λ e. absurd (omega arith), λ none. absurd (none (r.0, r.1)));
+  no_command = λ none. absurd (none (r.0, r.1));
+  bad_words = λ e. absurd (omega arith);
   too_long = λ e. absurd (omega arith);
   reads_steady = λ a b. r.2.1.1.no_fault;
   writes_steady = λ a b. absurd (a refl);
@@ -168,25 +191,42 @@ follows_end words old new status.NoMemory r = record {
   read_failed = λ e. absurd (omega arith);
   write_failed = λ e. absurd (omega arith);
   cut_short = λ e. r;
-  bad_words = (λ e. absurd (omega arith), λ none. absurd (none (r.0, r.1)));
+  no_command = λ none. absurd (none (r.0, r.1));
+  bad_words = λ e. absurd (omega arith);
   too_long = λ e. absurd (omega arith);
   reads_steady = λ a b. absurd (b refl);
   writes_steady = λ a b. absurd (b refl);
   unwritten = λ e. absurd (none_of e (omega arith) (omega arith) (omega arith));
   at_most_seven = omega arith;
 }
-follows_end words old new status.BadWords r = record {
+follows_end words old new status.BadWords (inl r) = record {
   accepted = λ e. absurd (omega arith);
   refused = λ e. absurd (omega arith);
   declined = λ e. absurd (omega arith);
   read_failed = λ e. absurd (omega arith);
   write_failed = λ e. absurd (omega arith);
   cut_short = λ e. absurd (neither_of e (omega arith) (omega arith));
-  bad_words = (λ e. r.0, λ no. refl);
+  no_command = λ no. refl;
+  bad_words = λ e. inl r.0;
   too_long = λ e. absurd (omega arith);
   reads_steady = λ a b. ap (λ (w : World). w.source.faults) r.1;
   writes_steady = λ a b. ap (λ (w : World). w.sink.faults) r.1;
   unwritten = λ e. ap (λ (w : World). w.sink.taken) r.1;
+  at_most_seven = omega arith;
+}
+follows_end words old new status.BadWords (inr r) = record {
+  accepted = λ e. absurd (omega arith);
+  refused = λ e. absurd (omega arith);
+  declined = λ e. absurd (omega arith);
+  read_failed = λ e. absurd (omega arith);
+  write_failed = λ e. absurd (omega arith);
+  cut_short = λ e. absurd (neither_of e (omega arith) (omega arith));
+  no_command = λ no. refl;
+  bad_words = λ e. inr r;
+  too_long = λ e. absurd (omega arith);
+  reads_steady = λ a b. r.2.1.no_fault;
+  writes_steady = λ a b. r.2.2.2.no_fault;
+  unwritten = λ e. r.2.2.2.taken ∙ ap (taken_with old.sink.taken) (no_text r.0 r.2.0 r.2.2.0 r.2.2.1) ∙ taken_with-nothing old.sink.taken;
   at_most_seven = omega arith;
 }
 follows_end words old new status.TooLong r = record {
@@ -196,7 +236,8 @@ follows_end words old new status.TooLong r = record {
   read_failed = λ e. absurd (omega arith);
   write_failed = λ e. absurd (omega arith);
   cut_short = λ e. absurd (neither_of e (omega arith) (omega arith));
-  bad_words = (λ e. absurd (omega arith), λ none. absurd (none r.0));
+  no_command = λ none. absurd (none r.0);
+  bad_words = λ e. absurd (omega arith);
   too_long = λ e. r.1.long;
   reads_steady = λ a b. r.1.no_fault;
   writes_steady = λ a b. r.2.no_fault;
@@ -206,17 +247,6 @@ follows_end words old new status.TooLong r = record {
 
 pub follows : (words : List (String Global)) (old new : World) (code : ℕ) → Ran words old new code → Follows words old new code
 follows words old new code ran = rw ran.1 (follows_end words old new ran.0 ran.2)
-
--- only words that are no command end with 6
-pub bad_words_end : (end : Status) → code_of end ≡ 6 → end ≡ status.BadWords
-bad_words_end status.Accepted e = absurd (omega (arith, e))
-bad_words_end status.Refused e = absurd (omega (arith, e))
-bad_words_end status.NotDeclarations e = absurd (omega (arith, e))
-bad_words_end status.ReadFailed e = absurd (omega (arith, e))
-bad_words_end status.WriteFailed e = absurd (omega (arith, e))
-bad_words_end status.NoMemory e = absurd (omega (arith, e))
-bad_words_end status.BadWords e = refl
-bad_words_end status.TooLong e = absurd (omega (arith, e))
 
 -- a list of fewer than one is empty
 pub nothing_in : {A : Type 0} (xs : List A) → length xs < 1 → xs ≡ []

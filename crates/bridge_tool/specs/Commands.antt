@@ -1,19 +1,33 @@
 -- The words of a command line, and the command that they ask for.
-use Rattle.std.specs.Prelude.{◌≡◌, ℕ, List, [], ◌∷◌, map, codes, string_bytes, String, Option, Some, None, if◌then◌else◌}
+use Rattle.std.specs.Prelude.{◌≡◌, ◌^◌, ◌+◌, ◌-◌, ◌*◌, ◌&&◌, ℕ, List, [], ◌∷◌, map, codes, decimal, nat_lt, string_bytes, String, Option, Some, None, option_map, if◌then◌else◌}
 use Rattle.std.specs.Str.{bytes_eq}
 use Rattle.std.specs.declared.alloc.Global.{Global}
 use Rattle.bridge_tool.specs.declared.command.Command.{Command}
-use Rattle.bridge_tool.specs.declared.command.Command.TheVariants.{Check, Links}
+use Rattle.bridge_tool.specs.declared.command.Command.TheVariants.{Check, Explain, Links}
 
 -- the command of a name
 abbrev pub command_named : List ℕ → Option Command
 command_named word = if bytes_eq word (codes "check") then Some Check else if bytes_eq word (codes "links") then Some Links else None
 
+-- what digits write once n was written
+abbrev pub digits_after : ℕ → List ℕ → ℕ
+digits_after n [] = n
+digits_after n (c ∷ word) = digits_after (n * 10 + (c - 48)) word
+
+-- the number below 2^32 that the word is in decimal, without a sign or a leading zero
+abbrev pub number_in : List ℕ → Option ℕ
+number_in word = let n = digits_after 0 word in if nat_lt n (2 ^ 32) && bytes_eq (decimal n) word then Some n else None
+
+-- `explain`, by the words after it
+abbrev pub explaining : List ℕ → List ℕ → List ℕ → Option Command
+explaining callable leaf number = option_map (λ n. Explain (record { callable = callable; leaf = leaf; lifetime = n })) (number_in number)
+
 -- that of all words: without any it is `check`
 abbrev pub command_of : List (List ℕ) → Option Command
 command_of [] = Some Check
 command_of (word ∷ []) = command_named word
-command_of (word ∷ next ∷ words) = None
+command_of (word ∷ callable ∷ leaf ∷ number ∷ []) = if bytes_eq word (codes "explain") then explaining callable leaf number else None
+command_of _ = None
 
 -- the words ask for the command
 abbrev pub AskFor : List (String Global) → Command → Type 0

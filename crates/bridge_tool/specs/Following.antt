@@ -1,5 +1,5 @@
 -- What follows from the table of statuses, for the number that a run ends with.
-use Rattle.std.specs.Prelude.{◌≡◌, ◌≢◌, ◌≤◌, ◌<◌, ◌^◌, ◌⊎◌, ◌↔◌, ℕ, List, String, IfSome, length}
+use Rattle.std.specs.Prelude.{◌≡◌, ◌≢◌, ◌≤◌, ◌<◌, ◌^◌, ◌⊎◌, ℕ, List, String, IfSome, length}
 use Rattle.std.specs.declared.alloc.Global.{Global}
 use Rattle.bridge_outside.specs.Outside.{Rose}
 use Rattle.bridge_tool.specs.declared.status.Status.TheVariants as status
@@ -15,8 +15,9 @@ pub record Follows (words : List (String Global)) (old new : World) (code : ℕ)
   pub write_failed : code ≡ 4 → Rose old.sink.faults new.sink.faults
   -- 4 and 5: the sink took nothing, or a first part of a text that answers the bytes with another status
   pub cut_short : (code ≡ 4) ⊎ (code ≡ 5) → Asked words (λ command. (new.sink.taken ≡ old.sink.taken) ⊎ IsCutShort command old new)
-  -- 6 comes exactly where the words are no command
-  pub bad_words : (code ≡ 6) ↔ (¬ (AreCommand words))
+  -- 6 comes where the words are no command, and where `explain` asks about nothing
+  pub no_command : ¬ (AreCommand words) → code ≡ 6
+  pub bad_words : code ≡ 6 → ¬ (AreCommand words) ⊎ Asked words (λ command. IsAnswered command old new status.BadWords)
   pub too_long : code ≡ 7 → IfSome old.source.left (λ had. 2 ^ 26 < length had)
   -- only a failed read, or want of memory, leaves the source's count of faults raised, and likewise for the sink
   pub reads_steady : code ≢ 3 → code ≢ 5 → new.source.faults ≡ old.source.faults

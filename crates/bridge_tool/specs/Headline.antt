@@ -3,14 +3,15 @@ use Rattle.std.specs.Prelude.{◌≡◌, ◌≢◌, ◌≤◌, ◌<◌, ◌^◌,
 use Rattle.std.specs.declared.alloc.Global.{Global}
 use Rattle.bridge_outside.specs.Outside.{Rose, taken_with}
 use Rattle.bridge_printing.specs.Lines.{lines}
+use Rattle.bridge_explain.specs.Inquiry.{Inquiry as Question}
 use Rattle.hir_reports.specs.declared.report.LoweringReport.{LoweringReport}
 use Rattle.bridge_read.specs.declared.input.Input.{Input}
 use Rattle.bridge_read.specs.Inputs.{SpellsInput}
 use Rattle.bridge_tool.specs.Commands.{AskFor}
-use Rattle.bridge_tool.specs.Checking.{BreaksNothing, HasPage, IsRefusedWith}
+use Rattle.bridge_tool.specs.Checking.{BreaksNothing, ExplainsNothing, HasPage, IsRefusedWith}
 use Rattle.bridge_tool.specs.Running.{World}
 use Rattle.bridge_tool.specs.declared.command.Command.{Command}
-use Rattle.bridge_tool.specs.declared.command.Command.TheVariants.{Check, Links}
+use Rattle.bridge_tool.specs.declared.command.Command.TheVariants.{Check, Explain, Links}
 
 -- The words ask for the command, the source tells these bytes, and no count of faults rises or stands at the last value of its type.
 pub record IsUndisturbed (words : List (String Global)) (asked : Command) (old new : World) (had : List ℕ) : Type 0 where
@@ -52,8 +53,18 @@ pub record SettlesLinks (had : List ℕ) (code : ℕ) : Type 0 where
   pub declined : (code ≡ 2) ↔ ((length had ≤ 2 ^ 26) × ((input : Input) → ¬ (SpellsInput had input)))
   pub too_long : (code ≡ 7) ↔ (2 ^ 26 < length had)
 
+-- What they say of that of `explain`: 0 and 6 share what `check` accepts, by whether something is asked about.
+pub record SettlesExplain (question : Question) (had : List ℕ) (code : ℕ) : Type 0 where
+  pub accepted :
+      (code ≡ 0) ↔ ((length had ≤ 2 ^ 26) × ((input : Input) × SpellsInput had input × BreaksNothing input × (¬ (ExplainsNothing input question))))
+  pub refused : (code ≡ 1) ↔ ((length had ≤ 2 ^ 26) × ((input : Input) × SpellsInput had input × (¬ (BreaksNothing input))))
+  pub declined : (code ≡ 2) ↔ ((length had ≤ 2 ^ 26) × ((input : Input) → ¬ (SpellsInput had input)))
+  pub nothing : (code ≡ 6) ↔ ((length had ≤ 2 ^ 26) × ((input : Input) × SpellsInput had input × BreaksNothing input × ExplainsNothing input question))
+  pub too_long : (code ≡ 7) ↔ (2 ^ 26 < length had)
+
 abbrev pub Settles : Command → List ℕ → ℕ → Type 0
 Settles Check had code = SettlesCheck had code
+Settles (Explain question) had code = SettlesExplain question had code
 Settles Links had code = SettlesLinks had code
 
 -- COMPLETENESS: where nothing disturbs a command, its bytes settle the status, but for want of memory.

@@ -5,14 +5,15 @@ use Rattle.bridge_read.specs.declared.input.Input.{Input}
 use Rattle.bridge_read.specs.Inputs.{SpellsInput}
 use Rattle.bridge_outside.specs.Outside.{Rose, SinkState, SourceState, taken_with}
 use Rattle.bridge_printing.specs.Lines.{lines}
+use Rattle.bridge_explain.specs.Inquiry.{Inquiry as Question}
 use Rattle.bridge_tool.specs.declared.status.Status.{Status}
 use Rattle.bridge_tool.specs.declared.status.Status.TheVariants as status
 use Rattle.bridge_tool.specs.Commands.{AreCommand, AskFor}
-use Rattle.bridge_tool.specs.Checking.{BreaksNothing, HasPage, IsRefusedWith}
+use Rattle.bridge_tool.specs.Checking.{BreaksNothing, ExplainsNothing, HasExplanation, HasPage, IsRefusedWith}
 use Rattle.bridge_tool.specs.Declining.{AreFaulty}
 use Rattle.bridge_tool.specs.DocsPage.{docs_page}
 use Rattle.bridge_tool.specs.declared.command.Command.{Command}
-use Rattle.bridge_tool.specs.declared.command.Command.TheVariants.{Check, Links}
+use Rattle.bridge_tool.specs.declared.command.Command.TheVariants.{Check, Explain, Links}
 use Rattle.hir_reports.specs.declared.report.LoweringReport.{LoweringReport}
 use Rattle.bridge_tool.specs.Statuses.{code_of}
 
@@ -48,9 +49,23 @@ AnswersLinks bytes status.NoMemory text = ⊥
 AnswersLinks bytes status.BadWords text = ⊥
 AnswersLinks bytes status.TooLong text = ⊥
 
+-- The text that answers `explain`: 0, the line of a right explanation of what is asked about; 1 and 2, as for `check`; 6, none, where nothing
+-- is asked about.
+abbrev pub AnswersExplain : Question → List ℕ → Status → List ℕ → Type 0
+AnswersExplain question bytes status.Accepted text = (input : Input) × SpellsInput bytes input × BreaksNothing input × HasExplanation input question text
+AnswersExplain question bytes status.Refused text = AnswersCheck bytes status.Refused text
+AnswersExplain question bytes status.NotDeclarations text = AreFaulty bytes text
+AnswersExplain question bytes status.ReadFailed text = ⊥
+AnswersExplain question bytes status.WriteFailed text = ⊥
+AnswersExplain question bytes status.NoMemory text = ⊥
+AnswersExplain question bytes status.BadWords text =
+    (input : Input) × SpellsInput bytes input × BreaksNothing input × ExplainsNothing input question × (text ≡ [])
+AnswersExplain question bytes status.TooLong text = ⊥
+
 -- The text that answers a command.
 abbrev pub Answers : Command → List ℕ → Status → List ℕ → Type 0
 Answers Check bytes = AnswersCheck bytes
+Answers (Explain question) bytes = AnswersExplain question bytes
 Answers Links bytes = AnswersLinks bytes
 
 -- These are all the bytes that the source had, at most 2^26; no read failed, and it has none left.
@@ -106,7 +121,7 @@ Says words old new status.NotDeclarations = Asked words (λ command. IsAnswered 
 Says words old new status.ReadFailed = AreCommand words × Rose old.source.faults new.source.faults × NothingTaken old.sink new.sink
 Says words old new status.WriteFailed = Asked words (λ command. Rose old.sink.faults new.sink.faults × IsCutShort command old new)
 Says words old new status.NoMemory = Asked words (λ command. (new.sink.taken ≡ old.sink.taken) ⊎ IsCutShort command old new)
-Says words old new status.BadWords = ¬ (AreCommand words) × (new ≡ old)
+Says words old new status.BadWords = (¬ (AreCommand words) × (new ≡ old)) ⊎ Asked words (λ command. IsAnswered command old new status.BadWords)
 Says words old new status.TooLong = AreCommand words × IsTooLong old.source new.source × NothingTaken old.sink new.sink
 
 -- the run ended with the number of a status, and what this status says is so

@@ -2,6 +2,7 @@
 
 mod declarations;
 mod examples;
+mod explanations;
 mod inputs;
 mod links;
 mod program;

@@ -40,5 +40,5 @@ Printed P old new status.NotDeclarations = IsWhole P old new status.NotDeclarati
 Printed P old new status.ReadFailed = ⊥
 Printed P old new status.WriteFailed = Rose old.faults new.faults × FirstPart P old new
 Printed P old new status.NoMemory = (new.taken ≡ old.taken) ⊎ FirstPart P old new
-Printed P old new status.BadWords = ⊥
+Printed P old new status.BadWords = IsWhole P old new status.BadWords
 Printed P old new status.TooLong = ⊥

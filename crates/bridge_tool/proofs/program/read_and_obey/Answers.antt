@@ -1,16 +1,13 @@
 use Rattle.std.proofs.Common.{List, ℕ, subst, arith}
 use Rattle.bridge_tool.specs.Running.{Answers, world}
 use Rattle.bridge_tool.specs.inside.Answering.{Printed}
-use Rattle.bridge_tool.proofs.RunLemmas.{printed_end, says_answered}
+use Rattle.bridge_tool.proofs.RunLemmas.{says_answered}
 use Rattle.bridge_tool.proofs.program.read_and_obey.Goals as goal
 
 pub returns-in-Ok-clause-says : goal.returns-in-Ok-clause-says
 returns-in-Ok-clause-says g c = λ words asks.
     let sink = g.K.Sink.state c.args.sink.now in
     let sink' = g.K.Sink.state c.obey.new.sink in
-    says_answered words c.args.command (world (g.S.Source.state c.args.source.now) sink) (world (g.S.Source.state c.read_all.new.source) sink') c.in-Ok.bytes.items asks
+    says_answered words c.args.command.now (world (g.S.Source.state c.args.source.now) sink) (world (g.S.Source.state c.read_all.new.source) sink') c.in-Ok.bytes.items asks
     (record { all = c.in-Ok.ensures.whole; short = omega (arith, c.in-Ok.ensures.short, c.in-Ok.bytes.ok.0); none_left = c.in-Ok.ensures.at_end; no_fault = c.in-Ok.ensures.steady })
-    c.obey.result (subst (λ (bytes : List ℕ). Printed (Answers c.args.command bytes) sink sink' c.obey.result) c.deref.ensures.value c.obey.ensures)
-
-pub returns-in-Ok-clause-command : goal.returns-in-Ok-clause-command
-returns-in-Ok-clause-command g c = printed_end (Answers c.args.command c.deref.result.now) (g.K.Sink.state c.args.sink.now) (g.K.Sink.state c.obey.new.sink) c.obey.result c.obey.ensures
+    c.obey.result (subst (λ (bytes : List ℕ). Printed (Answers c.args.command.now bytes) sink sink' c.obey.result) c.deref.ensures.value c.obey.ensures)

@@ -1,8 +1,7 @@
-use Rattle.std.proofs.Common.{subst, sym, ◌∙◌, ℕ}
+use Rattle.std.proofs.Common.{subst, sym, ℕ}
 use Rattle.bridge_tool.specs.Headline.{Headline, IsComplete}
 use Rattle.bridge_tool.specs.Running.{world}
 use Rattle.bridge_tool.proofs.HeadlineLemmas.{complete_of, headline_of}
-use Rattle.bridge_tool.proofs.RunLemmas.{bad_words_end}
 use Rattle.bridge_tool.proofs.program.run.Goals as goal
 
 pub returns : goal.returns
@@ -17,7 +16,7 @@ returns g c =
       headline = subst (λ (code : ℕ). Headline words old new code) is (headline_of words old new end says);
       complete = subst (λ (code : ℕ). IsComplete words old new code) is (complete_of words old new end says);
       says = (end, c.code.ensures, says);
-      unread = λ bad. c.run_to_status.ensures.untouched (bad_words_end end (is ∙ bad));
+      unread = c.run_to_status.ensures.untouched;
       few_reads = c.run_to_status.ensures.few_reads;
       rest = c.run_to_status.ensures.rest;
     }
