@@ -10,7 +10,7 @@ use Rattle.bridge_decl.specs.declared.modules.Item.TheVariants as item
 use Rattle.bridge_decl.specs.declared.modules.Module.{Module}
 use Rattle.bridge_decl.specs.Lifetimes.{IsSoundEnvironment}
 use Rattle.bridge_text.specs.NameIndex.{AreDistinct}
-use Rattle.bridge_generate.specs.Generated.{function_of, functions_below, generated_module, items_of, one_lifetime, struct_of, structs_below, the_opaque, two_lifetimes}
+use Rattle.bridge_generate.specs.Generated.{function_numbered, functions_below, generated_items, generated_module, one_lifetime, struct_numbered, structs_below, the_opaque, two_lifetimes}
 use Rattle.bridge_generate.proofs.LifetimeLemmas.{none_sound, one_sound, two_sound}
 use Rattle.bridge_generate.proofs.NameLemmas.{names_differ}
 
@@ -18,14 +18,14 @@ use Rattle.bridge_generate.proofs.NameLemmas.{names_differ}
 alone : {A : Type 0} (P : A → Type 0) (x : A) → P x → All P (x ∷ [])
 alone P x holds = All-cons P x [] holds (All-nil P)
 
-lifetimes_fit : (count : ℕ) → All HasSoundLifetimes (items_of count)
+lifetimes_fit : (count : ℕ) → All HasSoundLifetimes (generated_items count)
 unfolding structs_below functions_below
 lifetimes_fit count =
     All-cons HasSoundLifetimes (item.Opaque the_opaque) _ (alone IsSoundEnvironment the_opaque.lifetimes none_sound)
     (All-append HasSoundLifetimes (structs_below count) (functions_below count)
-    (All-map HasSoundLifetimes (λ number. item.Struct (struct_of number)) (range_with_len 0 count)
+    (All-map HasSoundLifetimes (λ number. item.Struct (struct_numbered number)) (range_with_len 0 count)
     (λ k d within. alone IsSoundEnvironment one_lifetime one_sound))
-    (All-map HasSoundLifetimes (λ number. item.Function (function_of number)) (range_with_len 0 count)
+    (All-map HasSoundLifetimes (λ number. item.Function (function_numbered number)) (range_with_len 0 count)
     (λ k d within. alone IsSoundEnvironment two_lifetimes two_sound)))
 
 root_alone : (count k : ℕ) (m : Module) → slice_get (generated_module count ∷ []) k ≡ Some m → m.path ≡ []

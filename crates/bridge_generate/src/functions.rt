@@ -1,11 +1,11 @@
 //! Functions.
 
 ghost use Rattle.std.specs.Prelude.{◌≡◌, ◌++◌, codes, IfOk, OnOk};
-ghost use Rattle.bridge_generate.specs.Generated.{function_of, functions_below, opaque_borrowed_for, outlived, outliving, param, params_of, struct_type, two_lifetimes};
+ghost use Rattle.bridge_generate.specs.Generated.{function_numbered, functions_below, opaque_borrowed_for, outlived, outliving, params_of, plain_param, struct_by_value, two_lifetimes};
 
 use crate::names::function_name;
-use crate::parts::{no_attrs, no_docs, one};
-use crate::types::{opaque_borrowed_for, struct_type};
+use crate::parts::{one, plain_attrs, plain_docs};
+use crate::types::{opaque_borrowed_for, struct_by_value};
 use bridge_ast::{
     Function, Item, Items, LifetimeEnv, LifetimeNode, NoMemory, Param, Text, TypeName,
 };
@@ -43,32 +43,32 @@ fn two_lifetimes(alloc: Global) -> Result<LifetimeEnv, NoMemory>
 }
 
 /// A parameter of the name and the type.
-fn param(alloc: Global, name: Text, ty: TypeName) -> Param
-    ensures { result ≡ param name ty }
+fn plain_param(alloc: Global, name: Text, ty: TypeName) -> Param
+    ensures { result ≡ plain_param name ty }
 {
     Param {
         name,
         ty,
-        attrs: no_attrs(alloc),
+        attrs: plain_attrs(alloc),
     }
 }
 
 /// `p: S7<'a>`, by the struct's number.
 fn struct_param(alloc: Global, number: usize) -> Result<Param, NoMemory>
-    ensures { IfOk result (λ it. it ≡ param (codes "p") (struct_type number)) }
+    ensures { IfOk result (λ it. it ≡ plain_param (codes "p") (struct_by_value number)) }
 {
     let name = Text::new(alloc, "p")?;
-    let ty = struct_type(alloc, number)?;
-    Ok(param(alloc, name, ty))
+    let ty = struct_by_value(alloc, number)?;
+    Ok(plain_param(alloc, name, ty))
 }
 
 /// `q: &'b O`.
 fn opaque_param(alloc: Global) -> Result<Param, NoMemory>
-    ensures { IfOk result (λ it. it ≡ param (codes "q") (opaque_borrowed_for (codes "b"))) }
+    ensures { IfOk result (λ it. it ≡ plain_param (codes "q") (opaque_borrowed_for (codes "b"))) }
 {
     let name = Text::new(alloc, "q")?;
     let ty = opaque_borrowed_for(alloc, "b")?;
-    Ok(param(alloc, name, ty))
+    Ok(plain_param(alloc, name, ty))
 }
 
 /// The parameters of the function of a number.
@@ -81,8 +81,8 @@ fn params_of(alloc: Global, number: usize) -> Result<Items<Param>, NoMemory>
 }
 
 /// The function of a number.
-fn function_of(alloc: Global, number: usize) -> Result<Function, NoMemory>
-    ensures { IfOk result (λ it. it ≡ function_of number) }
+fn function_numbered(alloc: Global, number: usize) -> Result<Function, NoMemory>
+    ensures { IfOk result (λ it. it ≡ function_numbered number) }
 {
     let name = function_name(alloc, number)?;
     let abi_name = name.try_clone(alloc)?;
@@ -95,8 +95,8 @@ fn function_of(alloc: Global, number: usize) -> Result<Function, NoMemory>
         lifetimes,
         params,
         output_type: Some(output),
-        docs: no_docs(alloc),
-        attrs: no_attrs(alloc),
+        docs: plain_docs(alloc),
+        attrs: plain_attrs(alloc),
     })
 }
 
@@ -106,7 +106,7 @@ pub fn add_functions(alloc: Global, items: &mut Items<Item>, count: usize) -> Re
     ensures { OnOk result (items.new ≡ items.old ++ functions_below count) }
 {
     for number in 0..count {
-        items.push(Item::Function(function_of(alloc, number)?))?;
+        items.push(Item::Function(function_numbered(alloc, number)?))?;
     }
     Ok(())
 }

@@ -1,10 +1,10 @@
 //! All declarations together.
 
 ghost use Rattle.std.specs.Prelude.{◌≡◌, ◌≤◌, [], ◌∷◌, IfOk};
-ghost use Rattle.bridge_generate.specs.Generated.{generated_module, items_of, the_opaque};
+ghost use Rattle.bridge_generate.specs.Generated.{generated_items, generated_module, the_opaque};
 
 use crate::functions::add_functions;
-use crate::parts::{no_attrs, no_docs, one};
+use crate::parts::{one, plain_attrs, plain_docs};
 use crate::structs::add_structs;
 use bridge_ast::{
     Env, EnvFault, Item, Items, LifetimeEnv, Module, Mutability, NoMemory, OpaqueType, Text,
@@ -25,14 +25,14 @@ fn the_opaque(alloc: Global) -> Result<OpaqueType, NoMemory>
         mutability: Mutability::Immutable,
         methods: Items::new(alloc),
         dtor_abi_name,
-        docs: no_docs(alloc),
-        attrs: no_attrs(alloc),
+        docs: plain_docs(alloc),
+        attrs: plain_attrs(alloc),
     })
 }
 
 /// The opaque, so many structs and as many functions, in this order.
 fn items(alloc: Global, count: usize) -> Result<Items<Item>, NoMemory>
-    ensures { IfOk result (λ items. items ≡ items_of count) }
+    ensures { IfOk result (λ items. items ≡ generated_items count) }
 {
     let mut items = one(alloc, Item::Opaque(the_opaque(alloc)?))?;
     add_structs(alloc, &mut items, count)?;
@@ -46,7 +46,7 @@ fn modules(alloc: Global, count: usize) -> Result<Vec<Module>, NoMemory>
 {
     let root = Module {
         path: Items::new(alloc),
-        attrs: no_attrs(alloc),
+        attrs: plain_attrs(alloc),
         items: items(alloc, count)?,
         aliases: Items::new(alloc),
     };

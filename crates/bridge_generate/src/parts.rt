@@ -1,14 +1,14 @@
 //! What declarations of every kind are made with.
 
 ghost use Rattle.std.specs.Prelude.{◌≡◌, [], ◌∷◌, IfOk};
-ghost use Rattle.bridge_generate.specs.Generated.{no_attrs, no_docs};
+ghost use Rattle.bridge_generate.specs.Generated.{plain_attrs, plain_docs};
 
 use bridge_ast::{Attrs, Docs, Items, NoMemory, RenameAttr};
 use std::alloc::Global;
 
 /// No documentation.
-pub fn no_docs(alloc: Global) -> Docs
-    ensures { result ≡ no_docs }
+pub fn plain_docs(alloc: Global) -> Docs
+    ensures { result ≡ plain_docs }
 {
     Docs {
         blocks: Items::new(alloc),
@@ -17,8 +17,8 @@ pub fn no_docs(alloc: Global) -> Docs
 }
 
 /// No attributes.
-pub fn no_attrs(alloc: Global) -> Attrs
-    ensures { result ≡ no_attrs }
+pub fn plain_attrs(alloc: Global) -> Attrs
+    ensures { result ≡ plain_attrs }
 {
     Attrs {
         features: Items::new(alloc),

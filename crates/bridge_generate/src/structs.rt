@@ -1,11 +1,11 @@
 //! Structs.
 
 ghost use Rattle.std.specs.Prelude.{◌≡◌, ◌++◌, codes, IfOk, OnOk};
-ghost use Rattle.bridge_generate.specs.Generated.{field, fields_of, one_lifetime, opaque_borrowed_for, struct_of, struct_type, structs_below};
+ghost use Rattle.bridge_generate.specs.Generated.{fields_of, one_lifetime, opaque_borrowed_for, plain_field, struct_by_value, struct_numbered, structs_below};
 
 use crate::names::struct_name;
-use crate::parts::{no_attrs, no_docs, one};
-use crate::types::{opaque_borrowed_for, struct_type};
+use crate::parts::{one, plain_attrs, plain_docs};
+use crate::types::{opaque_borrowed_for, struct_by_value};
 use bridge_ast::{Field, Item, Items, LifetimeEnv, LifetimeNode, NoMemory, Struct, Text, TypeName};
 use std::alloc::Global;
 
@@ -24,33 +24,33 @@ fn one_lifetime(alloc: Global) -> Result<LifetimeEnv, NoMemory>
 }
 
 /// A field of the name and the type.
-fn field(alloc: Global, name: Text, ty: TypeName) -> Field
-    ensures { result ≡ field name ty }
+fn plain_field(alloc: Global, name: Text, ty: TypeName) -> Field
+    ensures { result ≡ plain_field name ty }
 {
     Field {
         name,
         ty,
-        docs: no_docs(alloc),
-        attrs: no_attrs(alloc),
+        docs: plain_docs(alloc),
+        attrs: plain_attrs(alloc),
     }
 }
 
 /// `x: &'a O`.
 fn opaque_field(alloc: Global) -> Result<Field, NoMemory>
-    ensures { IfOk result (λ it. it ≡ field (codes "x") (opaque_borrowed_for (codes "a"))) }
+    ensures { IfOk result (λ it. it ≡ plain_field (codes "x") (opaque_borrowed_for (codes "a"))) }
 {
     let name = Text::new(alloc, "x")?;
     let ty = opaque_borrowed_for(alloc, "a")?;
-    Ok(field(alloc, name, ty))
+    Ok(plain_field(alloc, name, ty))
 }
 
 /// `s: S7<'a>`, by the struct's number.
 fn struct_field(alloc: Global, number: usize) -> Result<Field, NoMemory>
-    ensures { IfOk result (λ it. it ≡ field (codes "s") (struct_type number)) }
+    ensures { IfOk result (λ it. it ≡ plain_field (codes "s") (struct_by_value number)) }
 {
     let name = Text::new(alloc, "s")?;
-    let ty = struct_type(alloc, number)?;
-    Ok(field(alloc, name, ty))
+    let ty = struct_by_value(alloc, number)?;
+    Ok(plain_field(alloc, name, ty))
 }
 
 /// The fields of the struct of a number.
@@ -65,8 +65,8 @@ fn fields_of(alloc: Global, number: usize) -> Result<Items<Field>, NoMemory>
 }
 
 /// The struct of a number.
-fn struct_of(alloc: Global, number: usize) -> Result<Struct, NoMemory>
-    ensures { IfOk result (λ it. it ≡ struct_of number) }
+fn struct_numbered(alloc: Global, number: usize) -> Result<Struct, NoMemory>
+    ensures { IfOk result (λ it. it ≡ struct_numbered number) }
 {
     let name = struct_name(alloc, number)?;
     let lifetimes = one_lifetime(alloc)?;
@@ -77,8 +77,8 @@ fn struct_of(alloc: Global, number: usize) -> Result<Struct, NoMemory>
         fields,
         methods: Items::new(alloc),
         output_only: false,
-        docs: no_docs(alloc),
-        attrs: no_attrs(alloc),
+        docs: plain_docs(alloc),
+        attrs: plain_attrs(alloc),
     })
 }
 
@@ -88,7 +88,7 @@ pub fn add_structs(alloc: Global, items: &mut Items<Item>, count: usize) -> Resu
     ensures { OnOk result (items.new ≡ items.old ++ structs_below count) }
 {
     for number in 0..count {
-        items.push(Item::Struct(struct_of(alloc, number)?))?;
+        items.push(Item::Struct(struct_numbered(alloc, number)?))?;
     }
     Ok(())
 }
