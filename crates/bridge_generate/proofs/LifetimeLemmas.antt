@@ -1,7 +1,7 @@
 -- The lifetimes of each declaration fit together.
-use Rattle.std.proofs.Common.{◌≡◌, ℕ, zero, suc, ◌<◌, List, [], ◌∷◌, length, get_or, refl, sym, arith, subst}
+use Rattle.std.proofs.Common.{◌≡◌, ℕ, zero, suc, [], ◌∷◌, refl, sym, arith, subst}
 use Rattle.std.specs.List.{Contains}
-use Rattle.bridge_decl.specs.Lifetimes.{AreMutual, IsSoundEnvironment, declared_longer, declared_shorter, lifetime_names}
+use Rattle.bridge_decl.specs.Lifetimes.{IsSoundEnvironment, declared_longer, declared_shorter, lifetime_names}
 use Rattle.bridge_text.specs.NameIndex.{AreDistinct}
 use Rattle.bridge_generate.specs.Generated.{one_lifetime, two_lifetimes}
 use Rattle.bridge_generate.proofs.ListLemmas.{begin_apart}
