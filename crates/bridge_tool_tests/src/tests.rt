@@ -3,6 +3,7 @@
 mod declarations;
 mod examples;
 mod explanations;
+mod generating;
 mod inputs;
 mod links;
 mod program;

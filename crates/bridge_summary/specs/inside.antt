@@ -1,0 +1,2 @@
+-- What the calls tell one another.
+pub mod Counted
