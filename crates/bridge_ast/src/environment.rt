@@ -100,7 +100,8 @@ impl Env {
     /// does nothing: its contract is the law.
     pub fn lifetimes_fit_together(&self)
         ensures { (m : Module) (item : Item) (env : LifetimeEnv) → Contains self.now m
-            → Contains m.items item → Contains (lifetimes_of item) env → IsSoundEnvironment env }
+            → Contains m.items item → Contains (lifetimes_of item) env
+            → IsSoundEnvironment env }
     {
         let _ = &self.modules;
     }

@@ -167,7 +167,8 @@ fn test_aliases(
     module: usize,
     aliases: &[Alias],
 ) -> Result<(), EnvFault>
-    ensures told { (items : List Item) → HasMeanings names.old (items_named items) → Tells result
+    ensures told { (items : List Item) → HasMeanings names.old (items_named items)
+        → Tells result
         (each (alias_faults «module» items) aliases.now) }
     ensures kept { (items : List Item) → HasMeanings names.old (items_named items) → OnOk result
         (HasMeanings names.new (items_named items ++ aliases_named aliases.now)) }

@@ -50,7 +50,8 @@ fn test_node(
     number: usize,
     node: &LifetimeNode,
 ) -> Result<(), EnvFault>
-    ensures told { (before : List Named) (nodes : List LifetimeNode) → HasMeanings names.old before
+    ensures told { (before : List Named) (nodes : List LifetimeNode)
+        → HasMeanings names.old before
         → HasBounds bounds.now nodes → number < length nodes
         → Tells result (repeats_name EnvFaultKind.DuplicateLifetime at.«module» before
         node.now.name at.part ++ bound_faults at nodes number node.now) }

@@ -91,7 +91,8 @@ impl Env {
     /// it is read in the alias's module. As many aliases are followed as there are in the environment and segments in the path.
     pub fn resolve(&self, in_module: usize, path: &PathType) -> Option<CustomType<'_>>
         requires { in_module < length self.now }
-        ensures named { (item : Item) (place : ItemPlace) → (type_seen result ≡ Some (item, place))
+        ensures named { (item : Item) (place : ItemPlace)
+            → (type_seen result ≡ Some (item, place))
             ↔ NamesType self.now in_module path.now.segments item place }
         ensures nothing { (result ≡ None) ↔ ((item : Item) (place : ItemPlace)
             → ¬ NamesType self.now in_module path.now.segments item place) }

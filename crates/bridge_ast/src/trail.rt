@@ -212,7 +212,8 @@ fn take_from(
 /// A trail with one more segment.
 pub fn take_segment(scopes: &[Scope], ends: &Ends, trail: Trail, segment: &Text) -> Advance
     ensures { (modules : List Module) → Knows scopes.now modules → AreEnds ends.now modules
-        → IsInside modules trail.stand → TrailAdvances modules ends.now trail segment.now result }
+        → IsInside modules trail.stand
+        → TrailAdvances modules ends.now trail segment.now result }
 {
     match trail.stand {
         Stand::Item(_) => Advance::Stops,

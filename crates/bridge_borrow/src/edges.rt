@@ -40,7 +40,8 @@ fn push_carrier_edge(
     given: &[MaybeStatic<Lifetime>],
 ) -> Result<(), NoMemory>
     ensures { OnOk result (edges.new ≡ edges.old
-        ++ edges_of_whole input.now (is_in longer.now) is_slice (carried_by own element given.now)) }
+        ++ edges_of_whole input.now (is_in longer.now) is_slice
+        (carried_by own element given.now)) }
 {
     if carried_outlives(longer, own, element, given) {
         edges.push(ReportEdge {

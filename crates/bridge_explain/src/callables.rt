@@ -36,7 +36,8 @@ fn take_segment(left: &mut Comparing<'_>, is_after: bool, segment: &str)
 
 /// Takes the path of a module.
 fn take_module(left: &mut Comparing<'_>, path: &[Text])
-    ensures { left.new ≡ once_taken (join_by (λ segment. segment) (codes "::") path.now) left.old }
+    ensures { left.new
+        ≡ once_taken (join_by (λ segment. segment) (codes "::") path.now) left.old }
 {
     for (place, segment) in path.iter().enumerate() {
         take_segment(left, place > 0, segment.as_str());
@@ -45,7 +46,8 @@ fn take_module(left: &mut Comparing<'_>, path: &[Text])
 
 /// Takes an item, unless its name is empty. The answer is whether there is a segment now.
 fn take_item(left: &mut Comparing<'_>, is_after: bool, item: &str) -> bool
-    ensures taken { left.new ≡ once_taken (joined_after is_after (named_segments item.now)) left.old }
+    ensures taken { left.new
+        ≡ once_taken (joined_after is_after (named_segments item.now)) left.old }
     ensures any { result ≡ any_after is_after (named_segments item.now) }
 {
     if item.is_empty() {

@@ -14,7 +14,8 @@ use hir_life::Lifetimes;
 
 /// Whether a leaf is printed so.
 fn is_called(leaf: &BorrowingField<'_>, word: &str) -> Result<bool, NoMemory>
-    ensures { IfOk result (λ same. same ≡ bytes_eq (leaf_text (visited_leaf leaf.now)) word.now) }
+    ensures { IfOk result
+        (λ same. same ≡ bytes_eq (leaf_text (visited_leaf leaf.now)) word.now) }
 {
     is_shown_as(*leaf, word)
 }

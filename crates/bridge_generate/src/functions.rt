@@ -64,7 +64,8 @@ fn struct_param(alloc: Global, number: usize) -> Result<Param, NoMemory>
 
 /// `q: &'b O`.
 fn opaque_param(alloc: Global) -> Result<Param, NoMemory>
-    ensures { IfOk result (λ it. it ≡ plain_param (codes "q") (opaque_borrowed_for (codes "b"))) }
+    ensures { IfOk result
+        (λ it. it ≡ plain_param (codes "q") (opaque_borrowed_for (codes "b"))) }
 {
     let name = Text::new(alloc, "q")?;
     let ty = opaque_borrowed_for(alloc, "b")?;

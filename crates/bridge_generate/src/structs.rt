@@ -37,7 +37,8 @@ fn plain_field(alloc: Global, name: Text, ty: TypeName) -> Field
 
 /// `x: &'a O`.
 fn opaque_field(alloc: Global) -> Result<Field, NoMemory>
-    ensures { IfOk result (λ it. it ≡ plain_field (codes "x") (opaque_borrowed_for (codes "a"))) }
+    ensures { IfOk result
+        (λ it. it ≡ plain_field (codes "x") (opaque_borrowed_for (codes "a"))) }
 {
     let name = Text::new(alloc, "x")?;
     let ty = opaque_borrowed_for(alloc, "a")?;

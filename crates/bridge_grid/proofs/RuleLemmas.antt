@@ -36,7 +36,9 @@ use Rattle.bridge_grid.specs.rules.OpaqueSliceShape.{OpaqueSliceShape}
 use Rattle.bridge_grid.specs.rules.OwnedSliceMisplaced.{OwnedSliceMisplaced}
 use Rattle.bridge_grid.specs.rules.StrsOutput.{StrsOutput}
 use Rattle.bridge_grid.specs.rules.CallbackReturnShape.{CallbackReturnShape}
-use Rattle.bridge_grid.specs.rules.Misplaced.{ResultMisplaced, WriteMisplaced, UnitMisplaced}
+use Rattle.bridge_grid.specs.rules.ResultMisplaced.{ResultMisplaced}
+use Rattle.bridge_grid.specs.rules.WriteMisplaced.{WriteMisplaced}
+use Rattle.bridge_grid.specs.rules.UnitMisplaced.{UnitMisplaced}
 use Rattle.bridge_grid.specs.rules.SupportDenied.{Asks}
 use Rattle.bridge_grid.specs.Breaks.{ShapeBreaks, ordering_misplaced, zero_size, out_struct_input, opaque_by_value, mut_opaque_unmarked, reference_target, box_misplaced, option_shape, std_option_place, diplomat_option_opaque, result_misplaced, write_misplaced, unit_misplaced, function_misplaced, trait_misplaced, slice_element, opaque_slice_shape, owned_slice_misplaced, strs_output, callback_return_shape, support_denied}
 use Rattle.bridge_grid.proofs.CellBreaks.{CellBreaks}

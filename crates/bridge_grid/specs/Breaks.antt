@@ -23,7 +23,9 @@ use Rattle.bridge_grid.specs.rules.BoxMisplaced.{BoxMisplaced}
 use Rattle.bridge_grid.specs.rules.OptionShape.{OptionShape}
 use Rattle.bridge_grid.specs.rules.StdOptionPlace.{StdOptionPlace}
 use Rattle.bridge_grid.specs.rules.DiplomatOptionOpaque.{DiplomatOptionOpaque}
-use Rattle.bridge_grid.specs.rules.Misplaced.{ResultMisplaced, WriteMisplaced, UnitMisplaced}
+use Rattle.bridge_grid.specs.rules.ResultMisplaced.{ResultMisplaced}
+use Rattle.bridge_grid.specs.rules.WriteMisplaced.{WriteMisplaced}
+use Rattle.bridge_grid.specs.rules.UnitMisplaced.{UnitMisplaced}
 use Rattle.bridge_grid.specs.rules.FunctionMisplaced.{FunctionMisplaced}
 use Rattle.bridge_grid.specs.rules.TraitMisplaced.{TraitMisplaced}
 use Rattle.bridge_grid.specs.rules.SliceElement.{SliceElement}

@@ -8,7 +8,9 @@ pub mod BoxMisplaced
 pub mod OptionShape
 pub mod StdOptionPlace
 pub mod DiplomatOptionOpaque
-pub mod Misplaced
+pub mod ResultMisplaced
+pub mod WriteMisplaced
+pub mod UnitMisplaced
 pub mod FunctionMisplaced
 pub mod TraitMisplaced
 pub mod SliceElement

@@ -73,8 +73,10 @@ pub fn read_all<S: Source>(alloc: Global, source: &mut S) -> Result<Vec<u8>, Rea
         HasReadCause fault (S.state source.old) (S.state source.new)) }
     // Where no count of faults can have risen, the length alone decides, up to want of memory.
     ensures exact { IfSome (S.state source.old).left (λ all.
-        ¬ Rose (S.state source.old).faults (S.state source.new).faults → IsReadAnswer all result) }
-    ensures rest { (n : ℕ) × ((S.state source.new).left ≡ left_after n (S.state source.old).left) }
+        ¬ Rose (S.state source.old).faults (S.state source.new).faults
+        → IsReadAnswer all result) }
+    ensures rest { (n : ℕ)
+        × ((S.state source.new).left ≡ left_after n (S.state source.old).left) }
     ensures never_falls { (S.state source.old).faults ≤ (S.state source.new).faults }
     ensures few_reads { (S.state source.new).calls ≤ (S.state source.old).calls + (2 ^ 26 + 1) }
 {

@@ -4,6 +4,7 @@ use Rattle.std.specs.Prelude.{slice_get, codes, decimal, IsSome, is_some}
 use Rattle.std.specs.List.{AllZip, flat_map}
 use Rattle.std.proofs.lemmas.List.Folds.{flat_map-map}
 use Rattle.std.proofs.lemmas.Option.{slice_get_read}
+use Rattle.std.proofs.lemmas.Slice.Zip.{AllZip-long}
 use Rattle.hir_context.specs.Iterating.{all_types}
 use Rattle.hir_context.specs.declared.parts.Definitions.{Definitions}
 use Rattle.hir_definitions.specs.declared.methods.Method.{Method}
@@ -29,12 +30,6 @@ use Rattle.bridge_page.proofs.TextLemmas.{list_map}
 
 -- ---- lists side by side
 
-zip_length : {A B : Type 0} (R : A → B → Type 0) (xs : List A) (ys : List B) → AllZip R xs ys → length ys ≡ length xs
-zip_length R [] [] all = refl
-zip_length R [] (y ∷ ys) all = absurd all
-zip_length R (x ∷ xs) [] all = absurd all
-zip_length R (x ∷ xs) (y ∷ ys) all = ap suc (zip_length R xs ys all.1)
-
 zip_at : {A B : Type 0} (R : A → B → Type 0) (xs : List A) (ys : List B) → AllZip R xs ys → (n : ℕ) (y : B) → slice_get ys n ≡ Some y → (x : A) × R x y
 zip_at R [] [] all n y at = absurd cc
 zip_at R [] (z ∷ ys) all n y at = absurd all
@@ -42,14 +37,14 @@ zip_at R (x ∷ xs) [] all n y at = absurd all
 zip_at R (x ∷ xs) (z ∷ ys) all zero y at = let same : z ≡ y = cc in (x, subst (λ y. R x y) same all.0)
 zip_at R (x ∷ xs) (z ∷ ys) all (suc n) y at = zip_at R xs ys all.1 n y at
 
-zip_made : {A B C : Type 0} (R : A → B → Type 0) (S : A → C → Type 0) (f : B → C) → ((x : A) (y : B) → R x y → S x (f y))
+pub zip_made : {A B C : Type 0} (R : A → B → Type 0) (S : A → C → Type 0) (f : B → C) → ((x : A) (y : B) → R x y → S x (f y))
     → (xs : List A) (ys : List B) → AllZip R xs ys → AllZip S xs (map f ys)
 zip_made R S f each [] [] all = tt
 zip_made R S f each [] (y ∷ ys) all = absurd all
 zip_made R S f each (x ∷ xs) [] all = absurd all
 zip_made R S f each (x ∷ xs) (y ∷ ys) all = (each x y all.0, zip_made R S f each xs ys all.1)
 
-zip_turned : {A B C : Type 0} (R : A → B → Type 0) (S : B → C → Type 0) (f : A → C) → ((x : A) (y : B) → R x y → S y (f x))
+pub zip_turned : {A B C : Type 0} (R : A → B → Type 0) (S : B → C → Type 0) (f : A → C) → ((x : A) (y : B) → R x y → S y (f x))
     → (xs : List A) (ys : List B) → AllZip R xs ys → AllZip S ys (map f xs)
 zip_turned R S f each [] [] all = tt
 zip_turned R S f each [] (y ∷ ys) all = absurd all
@@ -153,5 +148,5 @@ module _ (defs : Definitions) where
     parts = map (callable_text defs) reports;
     each = zip_made Known IsCallableText (callable_text defs) callable_is_text (callables defs) reports (known reports told);
     is = ap (λ text. text ++ end_line (length reports)) (sym (flat_map-map (λ part. part) (callable_text defs) reports))
-        ∙ ap (λ n. flat_map (λ part. part) (map (callable_text defs) reports) ++ end_line n) (zip_length IsReported (callables defs) reports told);
+        ∙ ap (λ n. flat_map (λ part. part) (map (callable_text defs) reports) ++ end_line n) (AllZip-long IsReported (callables defs) reports told);
   }

@@ -67,7 +67,8 @@ fn receiver_struct(method: &Method) -> Option<StructId>
 
 /// The struct that the parameter of this number is.
 fn param_struct(method: &Method, number: usize) -> Option<StructId>
-    ensures { result ≡ option_and_then number_of_struct (input_at method.now (input.Param number)) }
+    ensures { result
+        ≡ option_and_then number_of_struct (input_at method.now (input.Param number)) }
 {
     match method.params.get(number) {
         Some(param) => struct_of(&input_part(&param.ty)),

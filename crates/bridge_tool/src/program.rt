@@ -210,7 +210,8 @@ fn read_and_obey<S: Source, K: Sink>(
         → Says words (world (S.state source.old) (K.state sink.old))
         (world (S.state source.new) (K.state sink.new)) result }
     ensures few_reads { (S.state source.new).calls ≤ (S.state source.old).calls + (2 ^ 26 + 2) }
-    ensures rest { (n : ℕ) × ((S.state source.new).left ≡ left_after n (S.state source.old).left) }
+    ensures rest { (n : ℕ)
+        × ((S.state source.new).left ≡ left_after n (S.state source.old).left) }
 {
     match read_all(alloc, source) {
         Ok(bytes) => obey(alloc, command, &bytes, sink),
@@ -230,7 +231,8 @@ fn run_to_status<S: Source, K: Sink>(
     ensures says { Says words.now (world (S.state source.old) (K.state sink.old))
         (world (S.state source.new) (K.state sink.new)) result }
     ensures few_reads { (S.state source.new).calls ≤ (S.state source.old).calls + (2 ^ 26 + 2) }
-    ensures rest { (n : ℕ) × ((S.state source.new).left ≡ left_after n (S.state source.old).left) }
+    ensures rest { (n : ℕ)
+        × ((S.state source.new).left ≡ left_after n (S.state source.old).left) }
     ensures untouched { ¬ (AreCommand words.now) → source.new ≡ source.old }
 {
     match command_of(words) {
@@ -266,7 +268,8 @@ pub fn run<S: Source, K: Sink>(alloc: Global, words: &[String], source: &mut S, 
     // Also where nothing is told of the bytes.
     ensures few_reads { (S.state source.new).calls ≤ (S.state source.old).calls + (2 ^ 26 + 2) }
     // What the source has left is the end of what it had, whatever the status.
-    ensures rest { (n : ℕ) × ((S.state source.new).left ≡ left_after n (S.state source.old).left) }
+    ensures rest { (n : ℕ)
+        × ((S.state source.new).left ≡ left_after n (S.state source.old).left) }
 {
     run_to_status(alloc, words, source, sink).code()
 }

@@ -205,7 +205,8 @@ impl Search {
             (steps.new + potential self.new ≤ steps.old + potential self.old) }
         ensures over { OnOk result (length self.new.work.items ≡ 0) }
         ensures seen { OnOk result
-            ((v : ℕ) → search_mark self.new v ≡ Unseen → search_mark self.old v ≡ Unseen) }
+            ((v : ℕ) → search_mark self.new v ≡ Unseen
+            → search_mark self.old v ≡ Unseen) }
     {
         while let Some(at) = self.work.last().copied() {
             let node = self.path[at];

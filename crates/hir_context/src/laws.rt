@@ -12,7 +12,8 @@ ghost use Rattle.hir_ids.specs.declared.ids.TypeId.{TypeId};
 /// comes, and no id comes twice.
 pub fn ids_resolve_to_their_definitions()
     ensures found { (defs : Definitions) (place : ℕ) (id : TypeId) (def : DefinedType)
-        → slice_get (all_types defs) place ≡ Some (id, def) → defined_at defs id ≡ Some def }
+        → slice_get (all_types defs) place ≡ Some (id, def)
+        → defined_at defs id ≡ Some def }
     ensures complete { (defs : Definitions) (id : TypeId) (def : DefinedType)
         → defined_at defs id ≡ Some def
         → (place : ℕ) × (slice_get (all_types defs) place ≡ Some (id, def)) }

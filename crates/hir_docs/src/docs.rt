@@ -39,7 +39,8 @@ fn tell(errors: &mut ErrorStore<'_>, error: Option<LoweringError>) -> Result<(),
 
 /// The lines so far and those of one more block, with a line feed between where there is text before.
 fn push_lines(lines: &mut String, block: &str) -> Result<(), NoMemory>
-    ensures { OnOk result (string_bytes lines.new ≡ continued (string_bytes lines.old) block.now) }
+    ensures { OnOk result (string_bytes lines.new
+        ≡ continued (string_bytes lines.old) block.now) }
 {
     if !lines.is_empty() {
         lines.push_str("\n")?;

@@ -101,7 +101,8 @@ const DOCS_RS: &str = "https://docs.rs/";
 /// Adds the folder of a crate, where the base is that of all crates.
 #[tactic(auto, unfolding(crate::specs::Links::docs_rs))]
 fn push_crate(base: String, crate_name: &Text) -> Result<String, NoMemory>
-    ensures { IfOk result (λ text. string_bytes text ≡ rooted (string_bytes base) crate_name.now) }
+    ensures { IfOk result
+        (λ text. string_bytes text ≡ rooted (string_bytes base) crate_name.now) }
 {
     let mut text = base;
     if text.as_str() == DOCS_RS {
@@ -122,7 +123,8 @@ fn push_folder(text: &mut String, segment: &Text) -> Result<(), NoMemory>
 
 /// Adds a folder for each segment.
 fn push_folders(text: &mut String, segments: &[Text]) -> Result<(), NoMemory>
-    ensures { OnOk result (string_bytes text.new ≡ string_bytes text.old ++ folders segments.now) }
+    ensures { OnOk result (string_bytes text.new
+        ≡ string_bytes text.old ++ folders segments.now) }
 {
     for segment in segments {
         push_folder(text, segment)?;

@@ -49,11 +49,13 @@ fn lower_written<L: LowerLifetime>(
 ) -> Result<SmallVec<MaybeStatic<Lifetime>, 2>, ElideFault>
     requires { IsRoomFor (length lifetimes.now) room }
     ensures numbers { (s : Signature) → L.stands lowerer.old s
-        → IfOk result (λ numbers. lowered_each L.phase s lifetimes.now ≡ map Ok numbers.items) }
+        → IfOk result
+        (λ numbers. lowered_each L.phase s lifetimes.now ≡ map Ok numbers.items) }
     ensures kept { (s : Signature) → L.stands lowerer.old s
         → OnOk result (L.stands lowerer.new (with_uses L.phase s lifetimes.now)) }
     ensures fault { (s : Signature) → L.stands lowerer.old s
-        → IfErr result (λ fault. all_or_fault (lowered_each L.phase s lifetimes.now) ≡ Err fault) }
+        → IfErr result
+        (λ fault. all_or_fault (lowered_each L.phase s lifetimes.now) ≡ Err fault) }
     ensures memory { ¬ (IsErrOf result ElideFault.NoMemory) }
     ensures arity { IfOk result (λ numbers. length numbers.items ≡ length lifetimes.now) }
     ensures room { IfOk result (λ numbers. numbers.capacity ≡ room.capacity) }
@@ -76,9 +78,11 @@ fn lower_unwritten<L: LowerLifetime>(
     ensures numbers { (s : Signature) (ls : List Used)
         → L.stands lowerer.old (with_uses L.phase s ls)
         → lowered_each L.phase s ls ≡ map Ok written.items
-        → IfOk result (λ numbers. lowered_each L.phase s (ls ++ replicate count used_as.Anonymous)
+        → IfOk result
+        (λ numbers. lowered_each L.phase s (ls ++ replicate count used_as.Anonymous)
         ≡ map Ok numbers.items) }
-    ensures kept { (s : Signature) (ls : List Used) → L.stands lowerer.old (with_uses L.phase s ls)
+    ensures kept { (s : Signature) (ls : List Used)
+        → L.stands lowerer.old (with_uses L.phase s ls)
         → lowered_each L.phase s ls ≡ map Ok written.items
         → OnOk result (L.stands lowerer.new (with_uses L.phase s
         (ls ++ replicate count used_as.Anonymous))) }
@@ -88,7 +92,8 @@ fn lower_unwritten<L: LowerLifetime>(
         → IfErr result (λ fault. all_or_fault (lowered_each L.phase s
         (ls ++ replicate count used_as.Anonymous)) ≡ Err fault) }
     ensures memory { ¬ (IsErrOf result ElideFault.NoMemory) }
-    ensures arity { IfOk result (λ numbers. length numbers.items ≡ length written.items + count) }
+    ensures arity { IfOk result
+        (λ numbers. length numbers.items ≡ length written.items + count) }
 {
     let mut lowered = written;
     for _ in 0..count {

@@ -59,7 +59,8 @@ pub trait LifetimeLowerer: LowerLifetime {
             → IfOk result (AreBelow (count_of (with_uses Self.phase s (filled lifetimes.now
             (length type_generics.now.nodes))))) }
         ensures memory { IsErrOf result ElideFault.NoMemory → self.new ≡ self.old }
-        ensures arity { IfOk result (λ numbers. length numbers ≡ length type_generics.now.nodes) }
+        ensures arity { IfOk result
+            (λ numbers. length numbers ≡ length type_generics.now.nodes) }
     {
         lower_each(alloc, self, lifetimes, type_generics.nodes.len())
     }

@@ -60,9 +60,11 @@ impl Numbering {
 
     /// The number of a new anonymous lifetime.
     fn anonymous(&mut self) -> Result<MaybeStatic<Lifetime>, ElideFault>
-        ensures told { (s : Signature) → Numbers self.old s → result ≡ within_most (count_of s) }
+        ensures told { (s : Signature) → Numbers self.old s
+            → result ≡ within_most (count_of s) }
         ensures kept { (s : Signature) (role : Role) → Numbers self.old s
-            → OnOk result (Numbers self.new (with_uses (Using role) s (written.Anonymous ∷ []))) }
+            → OnOk result
+            (Numbers self.new (with_uses (Using role) s (written.Anonymous ∷ []))) }
         ensures memory { ¬ (IsErrOf result ElideFault.NoMemory) }
         ensures own { self.new.own ≡ self.old.own }
     {
@@ -162,7 +164,8 @@ impl Numbering {
             × (lowered_each (Using Own) s (filled lifetimes.now (length type_generics.now.nodes))
             ≡ map Ok numbers)) }
         ensures memory { IsErrOf result ElideFault.NoMemory → self.new ≡ self.old }
-        ensures arity { IfOk result (λ numbers. length numbers ≡ length type_generics.now.nodes) }
+        ensures arity { IfOk result
+            (λ numbers. length numbers ≡ length type_generics.now.nodes) }
     {
         let count = type_generics.nodes.len();
         let room = room_for(alloc, count)?;

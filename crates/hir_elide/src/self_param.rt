@@ -66,14 +66,18 @@ impl SelfParamLifetimeLowerer {
         self,
         lifetime: &Written,
     ) -> Result<(MaybeStatic<Lifetime>, ParamLifetimeLowerer), ElideFault>
-        ensures told { (s : Signature) → ⟦<SelfParamLifetimeLowerer as StandsFor>⟧.stands self s
+        ensures told { (s : Signature)
+            → ⟦<SelfParamLifetimeLowerer as StandsFor>⟧.stands self s
             → IfOk result (λ both. lowered (Using Borrow) s lifetime.now ≡ Ok both.0) }
-        ensures fault { (s : Signature) → ⟦<SelfParamLifetimeLowerer as StandsFor>⟧.stands self s
+        ensures fault { (s : Signature)
+            → ⟦<SelfParamLifetimeLowerer as StandsFor>⟧.stands self s
             → IfErr result (λ fault. lowered (Using Borrow) s lifetime.now ≡ Err fault) }
-        ensures kept { (s : Signature) → ⟦<SelfParamLifetimeLowerer as StandsFor>⟧.stands self s
+        ensures kept { (s : Signature)
+            → ⟦<SelfParamLifetimeLowerer as StandsFor>⟧.stands self s
             → IfOk result (λ both. ⟦<ParamLifetimeLowerer as StandsFor>⟧.stands both.1
             (with_uses (Using Borrow) s (lifetime.now ∷ []))) }
-        ensures within { (s : Signature) → ⟦<SelfParamLifetimeLowerer as StandsFor>⟧.stands self s
+        ensures within { (s : Signature)
+            → ⟦<SelfParamLifetimeLowerer as StandsFor>⟧.stands self s
             → IfOk result (λ both. IsBelow
             (count_of (with_uses (Using Borrow) s (lifetime.now ∷ []))) both.0) }
     {

@@ -105,7 +105,8 @@ fn separates(
 /// Whether no lifetime of the list is carried.
 fn is_apart(carried: &[MaybeStatic<Lifetime>], long: &[Lifetime], ascends: bool) -> bool
     requires { IsTrue ascends → IsNonDecreasing long.now }
-    ensures { IsTrue result ↔ ((l : ℕ) → IsCarried carried.now l → Contains long.now l → ⊥) }
+    ensures { IsTrue result
+        ↔ ((l : ℕ) → IsCarried carried.now l → Contains long.now l → ⊥) }
 {
     for lifetime in carried {
         if has_carried(long, ascends, *lifetime) {

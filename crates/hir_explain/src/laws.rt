@@ -10,10 +10,11 @@ ghost use Rattle.hir_explain.specs.Explanations.{HasCarried, IsListed, IsSteady,
 /// Where an explanation proves a chain, some carried lifetime outlives `t`; where it proves separating lifetimes, none does.
 /// So a leaf never has explanations of both kinds.
 pub fn explanations_hold()
-    ensures chain { (e : Environment) (carried : List (MaybeStatic ℕ)) (t : ℕ) (chain : List ℕ)
-        → Proves e carried t (Chain chain) → IsListed e carried t }
+    ensures chain { (e : Environment) (carried : List (MaybeStatic ℕ)) (t : ℕ)
+        (chain : List ℕ) → Proves e carried t (Chain chain) → IsListed e carried t }
     ensures separating { (e : Environment) (carried : List (MaybeStatic ℕ)) (t : ℕ)
-        (long : List ℕ) → Proves e carried t (Separating long) → IsListed e carried t → ⊥ }
+        (long : List ℕ) → Proves e carried t (Separating long)
+        → IsListed e carried t → ⊥ }
 {}
 
 /// Some carried lifetime outlives `t` exactly where all steady lifetimes that have `t` have a carried one among them: however

@@ -10,7 +10,8 @@ ghost use Rattle.hir_fitting.specs.declared.census.Census.{Census};
 /// A mention fits exactly where it is no misfit, and so do the parts of a definition.
 pub fn what_has_no_misfit_fits()
     ensures mentions { (census : Census) (count : Option ℕ) (holder : SymbolId) (m : Mentioned)
-        → (Fits census count m ↔ ((named : SymbolId) → ¬ Misfits census count holder m named)) }
+        → (Fits census count m
+        ↔ ((named : SymbolId) → ¬ Misfits census count holder m named)) }
     ensures definitions { (census : Census) (holder : SymbolId) (parts : List Part)
         → (DefinitionFits census parts
         ↔ ((named : SymbolId) → ¬ DefinitionMisfits census holder parts named)) }

@@ -42,7 +42,8 @@ fn bounded_lifetimes(
 ) -> Result<Items<BoundedLifetime>, IdentFault>
     ensures value { IfOk result (λ made. made ≡ map bounded nodes.now) }
     ensures valid { OnOk result (All (λ node. IsIdent node.name) nodes.now) }
-    ensures bad { IsErrOf result IdentFault.Bad → ¬ (All (λ node. IsIdent node.name) nodes.now) }
+    ensures bad { IsErrOf result IdentFault.Bad
+        → ¬ (All (λ node. IsIdent node.name) nodes.now) }
 {
     let mut made = Items::new(alloc);
     for node in nodes {

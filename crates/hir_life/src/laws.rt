@@ -38,9 +38,10 @@ pub fn order_equality_and_hash_agree()
     ensures lifetime { Agree ⟦<Lifetime as Ord>⟧.cmp ⟦<Lifetime as PartialEq>⟧.eq
         ⟦<Lifetime as Hash>⟧.hash_input }
     ensures maybe_static { Agree ⟦<MaybeStatic<Lifetime> as Ord>⟧.cmp
-        ⟦<MaybeStatic<Lifetime> as PartialEq>⟧.eq ⟦<MaybeStatic<Lifetime> as Hash>⟧.hash_input }
+        ⟦<MaybeStatic<Lifetime> as PartialEq>⟧.eq
+        ⟦<MaybeStatic<Lifetime> as Hash>⟧.hash_input }
     ensures by_number { (l m : ℕ)
         → ⟦<MaybeStatic<Lifetime> as Ord>⟧.cmp (NonStatic l) (NonStatic m) ≡ nat_cmp l m }
-    ensures static_first { (l : ℕ) → ⟦<MaybeStatic<Lifetime> as Ord>⟧.cmp Static (NonStatic l)
-        ≡ Less }
+    ensures static_first { (l : ℕ)
+        → ⟦<MaybeStatic<Lifetime> as Ord>⟧.cmp Static (NonStatic l) ≡ Less }
 {}

@@ -9,6 +9,7 @@ ghost use Rattle.hir_links.specs.Links.{Link, pairs};
 /// as its number at the definition.
 pub fn links_agree_with_pairs()
     ensures arity { (link : Link) → length (pairs link) ≡ length link.uses }
-    ensures pair { (link : Link) (d : ℕ) (l : MaybeStatic ℕ) → slice_get link.uses d ≡ Some l
+    ensures pair { (link : Link) (d : ℕ) (l : MaybeStatic ℕ)
+        → slice_get link.uses d ≡ Some l
         → slice_get (pairs link) d ≡ Some (l, d) }
 {}

@@ -12,7 +12,8 @@ ghost use Rattle.hir_lowering.specs.Interface.{AreNamed, Interface};
 /// make a context.
 pub fn what_is_accepted_fits()
     ensures { (it : Interface) (defs : Definitions) (unfit : Unfit)
-        → IsCatalog it.modules it.catalog → AreNamed it.modules it.names → StandForItems it defs
+        → IsCatalog it.modules it.catalog → AreNamed it.modules it.names
+        → StandForItems it defs
         → ¬ (IsUnfit defs unfit) }
 {
     hir_fitting_forms::paths_lead_to_what_is_declared();

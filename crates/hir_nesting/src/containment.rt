@@ -102,7 +102,8 @@ fn add_structs<P: TyPosition>(
     requires all { length graph.old ≡ counts.now.out_structs + counts.now.structs }
     requires fits { length graph.old ≤ usize.MAX }
     ensures edges { (before : List (List ℕ)) (rest : ℕ)
-        → graph.old ≡ before ++ replicate (length defs.now + rest) [] → length before ≡ first
+        → graph.old ≡ before ++ replicate (length defs.now + rest) []
+        → length before ≡ first
         → OnOk result (graph.new ≡ (before ++ map
         (struct_numbers counts.now.out_structs counts.now.structs)
         (each_contained P.StructPath.id_of defs.now)) ++ replicate rest []) }

@@ -260,7 +260,8 @@ pub fn function_breaches<'a>(
 ) -> Result<Vec<Breach<'a>>, NoMemory>
     requires { number < length env.now }
     ensures { (n : Naming) → IsNaming env.now number n
-        → IfOk result (λ breaches. map broken breaches.items ≡ function_breaches n function.now) }
+        → IfOk result
+        (λ breaches. map broken breaches.items ≡ function_breaches n function.now) }
 {
     if are_too_many(&function.lifetimes) {
         return too_many(alloc);

@@ -172,7 +172,8 @@ pub fn number_trait_method(
         → trait_method_breaches names owner method.now ≡ [] → IfErr result IsOfElision }
     ensures arity { (names : Naming) (owner : ItemPlace) → IsNaming env.now number names
         → trait_method_breaches names owner method.now ≡ []
-        → IfOk result (λ n. HaveArity (trait_method_uses names method.now) (trait_numbers_of n)) }
+        → IfOk result
+        (λ n. HaveArity (trait_method_uses names method.now) (trait_numbers_of n)) }
 {
     number_trait_signature(alloc, env, number, method)
 }

@@ -82,7 +82,8 @@ fn lower(
 /// Uses a lifetime.
 fn add<'m>(before: &mut Before<'m>, mode: Mode, lifetime: &Written<'m>) -> Result<(), AllocError>
     ensures { OnOk result (before_seen before.new
-        ≡ with_uses (mode_seen mode) (before_seen before.old) (written_seen lifetime.now ∷ [])) }
+        ≡ with_uses (mode_seen mode) (before_seen before.old)
+        (written_seen lifetime.now ∷ [])) }
 {
     match mode {
         Mode::Uses(role) => before.occurrences.push(Occurrence {

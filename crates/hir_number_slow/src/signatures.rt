@@ -96,7 +96,8 @@ fn push_fields<'m>(
     requires { number < length env.now }
     ensures { (names : Naming) → IsNaming env.now number names
         → OnOk result (map use_seen uses.new.items
-        ≡ map use_seen uses.old.items ++ flat_map (λ field. type_uses names field.ty) fields.now) }
+        ≡ map use_seen uses.old.items
+        ++ flat_map (λ field. type_uses names field.ty) fields.now) }
 {
     for field in fields {
         push_type(uses, env, number, &field.ty)?;
@@ -222,7 +223,8 @@ pub fn trait_method_uses<'m>(
 ) -> Result<Vec<PlacedUse<'m>>, AllocError>
     requires { number < length env.now }
     ensures { (names : Naming) → IsNaming env.now number names
-        → IfOk result (λ uses. map placed_seen uses.items ≡ trait_method_uses names method.now) }
+        → IfOk result
+        (λ uses. map placed_seen uses.items ≡ trait_method_uses names method.now) }
 {
     let mut inputs = Vec::new(alloc);
     push_trait_receiver(&mut inputs, env, number, &method.self_param)?;

@@ -35,7 +35,8 @@ impl LoweringError {
     /// The error with copies of these arguments. `NoMemory` where there is no memory for them.
     pub fn new(alloc: Global, rule: Rule, args: &[&str]) -> Result<LoweringError, NoMemory>
         ensures { IfOk result
-            (λ error. error ≡ record { rule = rule; args = map (λ arg. arg.now) args.entry.now }) }
+            (λ error. error
+            ≡ record { rule = rule; args = map (λ arg. arg.now) args.entry.now }) }
     {
         let mut copies = Items::new(alloc);
         for arg in args {

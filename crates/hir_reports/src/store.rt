@@ -137,7 +137,8 @@ impl<'tree> ErrorStore<'tree> {
     pub fn truncate(&mut self, len: usize)
         ensures reports { self.new.reports ≡ take len self.old.reports }
         ensures place { self.new.place ≡ self.old.place }
-        ensures back { (earlier : Held) → Keeps earlier self.old → len ≡ length earlier.reports
+        ensures back { (earlier : Held) → Keeps earlier self.old
+            → len ≡ length earlier.reports
             → self.new ≡ earlier }
     {
         self.reports.truncate(len);

@@ -19,7 +19,8 @@ ghost use Rattle.hir_skeleton.specs.Edges.{LeadsDown, ShallowEdge, Unfolds, shal
 /// A definition in a definition in a method: under arguments that are substituted themselves, the
 /// leaves are those under the inner arguments, with each lifetime that they carry substituted.
 pub fn substitution_composes_along_nesting<K>()
-    ensures { (fields_of : K → List (Skeleton K)) (levels : ℕ) (given args : List (MaybeStatic ℕ))
+    ensures { (fields_of : K → List (Skeleton K))
+        (levels : ℕ) (given args : List (MaybeStatic ℕ))
         (s : Skeleton K) → deep_leaves fields_of levels (subst_each given args) s
         ≡ map (given_leaf args) (deep_leaves fields_of levels given s) }
 {}
@@ -38,7 +39,8 @@ pub fn lists_test_through_arguments<K>()
 /// outlives `t`.
 pub fn lists_are_what_outlives()
     ensures { (longer : ℕ → List ℕ) (t : ℕ) (test : ℕ → Bool) (leaves : List DeepLeaf)
-        (path : List ℕ) → TellsLonger longer t test → (Contains (listed_paths test leaves) path
+        (path : List ℕ) → TellsLonger longer t test
+        → (Contains (listed_paths test leaves) path
         ↔ (leaf : DeepLeaf) × Contains leaves leaf × (leaf.path ≡ path)
         × (l : ℕ) × Contains leaf.carried (NonStatic l) × Outlives longer l t) }
 {}
@@ -52,7 +54,8 @@ pub fn edges_unfold_to_lists<K>()
         → (Contains (listed_paths test (input_leaves fields_of count s)) path
         ↔ (length path ≤ 256) × (edge : ShallowEdge K)
         × Contains (shallow_edges test optional s) edge × Unfolds fields_of edge path) }
-    ensures given { (fields_of : K → List (Skeleton K)) (levels : ℕ) (args : List (MaybeStatic ℕ))
+    ensures given { (fields_of : K → List (Skeleton K))
+        (levels : ℕ) (args : List (MaybeStatic ℕ))
         (optional : Bool) (s : Skeleton K) (test : ℕ → Bool) (path : List ℕ)
         → (Contains (listed_paths test (deep_leaves fields_of levels args s)) path
         ↔ (length path ≤ levels) × (edge : ShallowEdge K)

@@ -10,11 +10,14 @@ use crate::positions::{CallbackReturn, Everywhere, InputOnly, OutputOnly, TyPosi
 
 /// A callback is itself where a method takes it, and is nothing at any other position.
 pub fn callbacks_come_in()
-    ensures built { (cb : Callback) → ⟦<InputOnly as PositionTypes>⟧.callback_here cb ≡ Some cb }
-    ensures lent { (cb : Callback) → ⟦<InputOnly as PositionTypes>⟧.callback_of cb ≡ Some cb }
+    ensures built { (cb : Callback)
+        → ⟦<InputOnly as PositionTypes>⟧.callback_here cb ≡ Some cb }
+    ensures lent { (cb : Callback)
+        → ⟦<InputOnly as PositionTypes>⟧.callback_of cb ≡ Some cb }
     ensures everywhere { (cb : Callback)
         → ⟦<Everywhere as PositionTypes>⟧.callback_here cb ≡ None }
-    ensures output { (cb : Callback) → ⟦<OutputOnly as PositionTypes>⟧.callback_here cb ≡ None }
+    ensures output { (cb : Callback)
+        → ⟦<OutputOnly as PositionTypes>⟧.callback_here cb ≡ None }
     ensures returned_by_callback { (cb : Callback)
         → ⟦<CallbackReturn as PositionTypes>⟧.callback_here cb ≡ None }
 {}
@@ -33,7 +36,8 @@ pub fn traits_come_in()
 
 /// The status of each position.
 pub fn statuses()
-    ensures everywhere { ⟦<Everywhere as TyPosition>⟧.IN_OUT_STATUS ≡ InputOrOutput.InputOutput }
+    ensures everywhere { ⟦<Everywhere as TyPosition>⟧.IN_OUT_STATUS
+        ≡ InputOrOutput.InputOutput }
     ensures input { ⟦<InputOnly as TyPosition>⟧.IN_OUT_STATUS ≡ InputOrOutput.Input }
     ensures output { ⟦<OutputOnly as TyPosition>⟧.IN_OUT_STATUS ≡ InputOrOutput.Output }
     ensures returned_by_callback { ⟦<CallbackReturn as TyPosition>⟧.IN_OUT_STATUS

@@ -47,7 +47,8 @@ impl<P: TyPosition> Slice<P> {
     /// All lifetimes of the slice: those that its elements give their definition, that of the
     /// elements where they are borrowed, and its own.
     pub(crate) fn lifetimes(&self) -> TypeLifetimes<'_>
-        ensures { result ≡ slice_lifetimes P.StructPath.lifetimes_of P.StructPath.held_of self.now }
+        ensures { result
+            ≡ slice_lifetimes P.StructPath.lifetimes_of P.StructPath.held_of self.now }
     {
         match self {
             Slice::Str(lifetime, _) => TypeLifetimes::new(&[], None, *lifetime),
