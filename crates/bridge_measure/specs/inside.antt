@@ -1,0 +1,2 @@
+-- What the proofs keep of the made declarations.
+pub mod Made
