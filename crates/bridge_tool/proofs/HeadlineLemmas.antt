@@ -1,20 +1,22 @@
 -- The headline and completeness, from what each status says.
-use Rattle.std.proofs.Common.{◌≡◌, ◌≢◌, ℕ, ◌≤◌, ◌<◌, ◌^◌, List, [], ◌∷◌, length, Option, Some, refl, sym, ap, subst, ◌∙◌, arith, inl, inr}
+use Rattle.std.proofs.Common.{◌≡◌, ◌≢◌, ℕ, ◌≤◌, ◌<◌, ◌^◌, List, [], length, Option, Some, refl, sym, ap, subst, arith, inl, inr}
 use Rattle.std.specs.Prelude.{◌⊎◌, IfSome, String}
 use Rattle.std.specs.declared.alloc.Global.{Global}
 use Rattle.bridge_catalogs.proofs.CatalogLemmas.{one_catalog}
 use Rattle.bridge_decl.specs.declared.modules.Module.{Module}
 use Rattle.bridge_explain.specs.Inquiry.{Inquiry as Question}
 use Rattle.bridge_lowering.specs.Broken.{HoldsOf}
+use Rattle.bridge_measure.proofs.MeasuredLemmas.{refused_break}
 use Rattle.bridge_order.specs.declared.catalog.Catalog.{Catalog}
 use Rattle.hir_backends.specs.Backend.{Backend}
+use Rattle.hir_backends.specs.Validator.{basic_meaning}
 use Rattle.hir_config.specs.declared.config.LoweringConfig.{LoweringConfig}
 use Rattle.hir_lowering.specs.Interface.{Interface}
 use Rattle.hir_lowering.specs.Walks.{interface_of}
 use Rattle.hir_naming.specs.Meaning.{naming_of}
 use Rattle.bridge_read.specs.declared.input.Input.{Input}
 use Rattle.bridge_read.proofs.InputLaws.{spelled_once}
-use Rattle.bridge_outside.specs.Outside.{SourceState}
+use Rattle.bridge_outside.specs.Outside.{Rose, SourceState}
 use Rattle.bridge_tool.specs.declared.status.Status.{Status}
 use Rattle.bridge_tool.specs.declared.status.Status.TheVariants as status
 use Rattle.bridge_tool.specs.Checking.{BreaksNothing, ExplainsNothing, HasExplanation, HasPage, IsRefusedWith}
@@ -23,11 +25,11 @@ use Rattle.bridge_tool.specs.Headline.{AnswersInput, Headline, IsComplete, IsUnd
 use Rattle.hir_reports.specs.declared.report.LoweringReport.{LoweringReport}
 use Rattle.bridge_read.specs.Inputs.{SpellsInput}
 use Rattle.bridge_tool.specs.Commands.{AskFor}
-use Rattle.bridge_tool.specs.Running.{World, Asked, IsAnswered, Says, WereRead}
+use Rattle.bridge_tool.specs.Running.{World, IsAnswered, Says, WereRead}
 use Rattle.bridge_tool.specs.declared.command.Command.{Command}
-use Rattle.bridge_tool.specs.declared.command.Command.TheVariants.{Check, Explain, Links}
+use Rattle.bridge_tool.specs.declared.command.Command.TheVariants.{Check, Explain, Generate, Links}
 use Rattle.bridge_tool.specs.Statuses.{code_of}
-use Rattle.std.specs.List.{Contains}
+use Rattle.bridge_tool.proofs.RunLemmas.{answered_as, follows}
 
 -- what holds of what is told
 if_told : {A : Type 0} (P : A → Type 0) {left : Option A} {had : A} → IfSome left P → left ≡ Some had → P had
@@ -46,23 +48,9 @@ spells_told : {old new : SourceState} {bytes had : List ℕ} (input : Input) →
     → SpellsInput had input
 spells_told input read told spells = subst (λ (b : List ℕ). SpellsInput b input) (read_told read told) spells
 
-contains_first : {A : Type 0} (x : A) (xs : List A) → Contains (x ∷ xs) x
-contains_first x xs = (0, omega (arith), refl)
-
 -- what is refused breaks a rule
 refused_breaks : (input : Input) (reports : List LoweringReport) → IsRefusedWith input reports → ¬ (BreaksNothing input)
-refused_breaks input [] refused = absurd (refused.some refl)
-refused_breaks input (report ∷ reports) refused = λ keep. keep report (refused.broken.each report (contains_first report reports))
-
--- words ask for one command
-same_command : (words : List (String Global)) (one other : Command) → AskFor words one → AskFor words other → one ≡ other
-same_command words one other asks_one asks_other = let e : Some one ≡ Some other = sym asks_one ∙ asks_other in cc
-
--- so what is answered is that
-answered_as : (words : List (String Global)) (old new : World) (asked : Command) (end : Status) → Asked words (λ command. IsAnswered command old new end)
-    → AskFor words asked → IsAnswered asked old new end
-answered_as words old new asked end r asks =
-    subst (λ (command : Command). IsAnswered command old new end) (same_command words r.0 asked r.1 asks) r.2
+refused_breaks input reports refused = refused_break input.env (basic_meaning input.validator) input.config reports refused
 
 -- with 6 too
 answered_six : (words : List (String Global)) (old new : World) (asked : Command) → Says words old new status.BadWords → AskFor words asked
@@ -295,11 +283,26 @@ settles_explain words old new had question status.BadWords r told =
 settles_explain words old new had question status.TooLong r told =
     inr (too_long_settles question had (if_told (λ all. 2 ^ 26 < length all) r.1.long told.told))
 
+-- `gen` ends with 0, where no write fails
+generates : (words : List (String Global)) (old new : World) (end : Status) → Says words old new end → (count : ℕ) → AskFor words (Generate count)
+    → ¬ (Rose old.sink.faults new.sink.faults) → (code_of end ≡ 5) ⊎ (code_of end ≡ 0)
+generates words old new end says count asks steady =
+    let so = follows words old new (code_of end) (end, refl, says) in
+    elim (so.generated count asks) [
+      | inl accepted ↦ inr accepted
+      | inr (inl failed) ↦ absurd (steady (so.write_failed failed))
+      | inr (inr want) ↦ inl want
+    ]
+
 settles_end : (words : List (String Global)) (old new : World) (had : List ℕ) (end : Status) → Says words old new end
     → (command : Command) → IsUndisturbed words command old new had → (code_of end ≡ 5) ⊎ Settles command had (code_of end)
 settles_end words old new had end says Check told = settles_check words old new had end says told
 settles_end words old new had end says (Explain question) told = settles_explain words old new had question end says told
+settles_end words old new had end says (Generate count) told = generates words old new end says count told.command told.no_write_failed
 settles_end words old new had end says Links told = settles_links words old new had end says told
 
 pub complete_of : (words : List (String Global)) (old new : World) (end : Status) → Says words old new end → IsComplete words old new (code_of end)
-complete_of words old new end says = λ had command told. settles_end words old new had end says command told
+complete_of words old new end says = record {
+  settled = λ had command told. settles_end words old new had end says command told;
+  generated = λ count asks steady. generates words old new end says count asks steady;
+}

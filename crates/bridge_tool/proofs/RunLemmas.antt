@@ -1,5 +1,5 @@
 -- What a run did, and what that says of its status.
-use Rattle.std.proofs.Common.{◌≡◌, ℕ, ◌<◌, List, [], ◌∷◌, length, Result, Ok, Err, refl, subst, ap, ◌∙◌, arith, inl, inr}
+use Rattle.std.proofs.Common.{◌≡◌, ℕ, ◌<◌, true, false, List, [], ◌∷◌, length, Some, Result, Ok, Err, refl, sym, subst, ap, ◌∙◌, arith, inl, inr}
 use Rattle.std.specs.Prelude.{◌⊎◌, String}
 use Rattle.std.specs.declared.alloc.Global.{Global}
 use Rattle.bridge_read.specs.Inputs.{IsToldOf, Refuses, SpellsInput}
@@ -10,15 +10,15 @@ use Rattle.bridge_tool.specs.Declining.{AreFaulty, fault_line}
 use Rattle.bridge_read.specs.declared.input.Input.{Input}
 use Rattle.bridge_outside.specs.declared.sink.SinkFault.{SinkFault}
 use Rattle.bridge_outside.specs.declared.sink.SinkFault.TheVariants.{Failed, NoMemory}
-use Rattle.bridge_outside.specs.Outside.{SinkState, taken_with}
+use Rattle.bridge_outside.specs.Outside.{SinkState, SourceState, taken_with}
 use Rattle.bridge_outside.specs.Printing.{Delivers}
 use Rattle.bridge_tool.specs.declared.status.Status.{Status}
 use Rattle.bridge_tool.specs.declared.status.Status.TheVariants as status
 use Rattle.bridge_tool.specs.Following.{Follows}
-use Rattle.bridge_tool.specs.Commands.{AskFor}
-use Rattle.bridge_tool.specs.Running.{World, Answers, AnswersCheck, FirstPart, Ran, Says, WereRead}
+use Rattle.bridge_tool.specs.Commands.{AreReading, AskFor, reads}
+use Rattle.bridge_tool.specs.Running.{World, Answers, AnswersCheck, Asked, FirstPart, IsAnswered, Ran, Says, WereRead, WereReadFor}
 use Rattle.bridge_tool.specs.declared.command.Command.{Command}
-use Rattle.bridge_tool.specs.declared.command.Command.TheVariants.{Check, Explain, Links}
+use Rattle.bridge_tool.specs.declared.command.Command.TheVariants.{Check, Explain, Generate, Links}
 use Rattle.bridge_outside.proofs.PrintingLaws.{taken_with-nothing}
 use Rattle.bridge_tool.specs.Statuses.{code_of}
 use Rattle.bridge_tool.specs.inside.Answering.{IsWhole, Printed, TellsOf, ended_with}
@@ -81,7 +81,7 @@ printed_answers bytes input old new status.TooLong spells p = absurd p
 
 -- what was read was answered
 pub says_answered : (words : List (String Global)) (command : Command) (old new : World) (bytes : List ℕ) → AskFor words command
-    → WereRead old.source new.source bytes → (end : Status) → Printed (Answers command bytes) old.sink new.sink end → Says words old new end
+    → WereReadFor command old.source new.source bytes → (end : Status) → Printed (Answers command bytes) old.sink new.sink end → Says words old new end
 says_answered words command old new bytes asks read status.Accepted p = (command, asks, (bytes, read, p))
 says_answered words command old new bytes asks read status.Refused p = (command, asks, (bytes, read, p))
 says_answered words command old new bytes asks read status.NotDeclarations p = (command, asks, (bytes, read, p))
@@ -105,7 +105,37 @@ none_of (inr (inr r)) no_p no_q no_r = no_r r
 no_text : (command : Command) (bytes text : List ℕ) → Answers command bytes status.BadWords text → text ≡ []
 no_text Check bytes text answer = absurd answer
 no_text (Explain question) bytes text answer = answer.4
+no_text (Generate count) bytes text answer = absurd answer
 no_text Links bytes text answer = absurd answer
+
+-- what was read for a command left the source's count of faults
+read_steady : (command : Command) (old new : SourceState) (bytes : List ℕ) → WereReadFor command old new bytes → new.faults ≡ old.faults
+read_steady Check old new bytes read = read.no_fault
+read_steady (Explain question) old new bytes read = read.no_fault
+read_steady (Generate count) old new bytes same = ap (λ (s : SourceState). s.faults) same
+read_steady Links old new bytes read = read.no_fault
+
+-- all bytes were read, for a command that reads
+pub was_read : (command : Command) (old new : SourceState) (bytes : List ℕ) → reads command ≡ true → WereRead old new bytes → WereReadFor command old new bytes
+was_read Check old new bytes is read = read
+was_read (Explain question) old new bytes is read = read
+was_read (Generate count) old new bytes is read = absurd cc
+was_read Links old new bytes is read = read
+
+-- words ask for one command
+pub same_command : (words : List (String Global)) (one other : Command) → AskFor words one → AskFor words other → one ≡ other
+same_command words one other asks_one asks_other = let e : Some one ≡ Some other = sym asks_one ∙ asks_other in cc
+
+-- so what is answered is that
+pub answered_as : (words : List (String Global)) (old new : World) (asked : Command) (end : Status)
+    → Asked words (λ command. IsAnswered command old new end) → AskFor words asked → IsAnswered asked old new end
+answered_as words old new asked end r asks =
+    subst (λ (command : Command). IsAnswered command old new end) (same_command words r.0 asked r.1 asks) r.2
+
+-- words that ask for `gen` ask for nothing that reads
+reads_none : (words : List (String Global)) (count : ℕ) → AskFor words (Generate count) → AreReading words → ⊥
+reads_none words count asks reading =
+    let e : false ≡ true = subst (λ (command : Command). reads command ≡ true) (same_command words reading.0 (Generate count) reading.1 asks) reading.2 in absurd cc
 
 -- what follows from the row of each status
 follows_end : (words : List (String Global)) (old new : World) (end : Status) → Says words old new end → Follows words old new (code_of end)
@@ -119,9 +149,10 @@ follows_end words old new status.Accepted r = record {
   no_command = λ none. absurd (none (r.0, r.1));
   bad_words = λ e. absurd (omega arith);
   too_long = λ e. absurd (omega arith);
-  reads_steady = λ a b. r.2.1.no_fault;
+  reads_steady = λ a b. read_steady r.0 old.source new.source r.2.0 r.2.1;
   writes_steady = λ a b. r.2.2.2.no_fault;
   unwritten = λ e. absurd (none_of e (omega arith) (omega arith) (omega arith));
+  generated = λ count asks. inl refl;
   at_most_seven = omega arith;
 }
 follows_end words old new status.Refused r = record {
@@ -134,9 +165,10 @@ follows_end words old new status.Refused r = record {
   no_command = λ none. absurd (none (r.0, r.1));
   bad_words = λ e. absurd (omega arith);
   too_long = λ e. absurd (omega arith);
-  reads_steady = λ a b. r.2.1.no_fault;
+  reads_steady = λ a b. read_steady r.0 old.source new.source r.2.0 r.2.1;
   writes_steady = λ a b. r.2.2.2.no_fault;
   unwritten = λ e. absurd (none_of e (omega arith) (omega arith) (omega arith));
+  generated = λ count asks. absurd (answered_as words old new (Generate count) status.Refused r asks).2.1;
   at_most_seven = omega arith;
 }
 follows_end words old new status.NotDeclarations r = record {
@@ -149,9 +181,10 @@ follows_end words old new status.NotDeclarations r = record {
   no_command = λ none. absurd (none (r.0, r.1));
   bad_words = λ e. absurd (omega arith);
   too_long = λ e. absurd (omega arith);
-  reads_steady = λ a b. r.2.1.no_fault;
+  reads_steady = λ a b. read_steady r.0 old.source new.source r.2.0 r.2.1;
   writes_steady = λ a b. r.2.2.2.no_fault;
   unwritten = λ e. absurd (none_of e (omega arith) (omega arith) (omega arith));
+  generated = λ count asks. absurd (answered_as words old new (Generate count) status.NotDeclarations r asks).2.1;
   at_most_seven = omega arith;
 }
 follows_end words old new status.ReadFailed r = record {
@@ -161,12 +194,13 @@ follows_end words old new status.ReadFailed r = record {
   read_failed = λ e. r.1;
   write_failed = λ e. absurd (omega arith);
   cut_short = λ e. absurd (neither_of e (omega arith) (omega arith));
-  no_command = λ none. absurd (none r.0);
+  no_command = λ none. absurd (none (r.0.0, r.0.1));
   bad_words = λ e. absurd (omega arith);
   too_long = λ e. absurd (omega arith);
   reads_steady = λ a b. absurd (a refl);
   writes_steady = λ a b. r.2.no_fault;
   unwritten = λ e. r.2.taken;
+  generated = λ count asks. absurd (reads_none words count asks r.0);
   at_most_seven = omega arith;
 }
 follows_end words old new status.WriteFailed r = record {
@@ -179,9 +213,10 @@ follows_end words old new status.WriteFailed r = record {
   no_command = λ none. absurd (none (r.0, r.1));
   bad_words = λ e. absurd (omega arith);
   too_long = λ e. absurd (omega arith);
-  reads_steady = λ a b. r.2.1.1.no_fault;
+  reads_steady = λ a b. read_steady r.0 old.source new.source r.2.1.0 r.2.1.1;
   writes_steady = λ a b. absurd (a refl);
   unwritten = λ e. absurd (none_of e (omega arith) (omega arith) (omega arith));
+  generated = λ count asks. inr (inl refl);
   at_most_seven = omega arith;
 }
 follows_end words old new status.NoMemory r = record {
@@ -197,6 +232,7 @@ follows_end words old new status.NoMemory r = record {
   reads_steady = λ a b. absurd (b refl);
   writes_steady = λ a b. absurd (b refl);
   unwritten = λ e. absurd (none_of e (omega arith) (omega arith) (omega arith));
+  generated = λ count asks. inr (inr refl);
   at_most_seven = omega arith;
 }
 follows_end words old new status.BadWords (inl r) = record {
@@ -212,6 +248,7 @@ follows_end words old new status.BadWords (inl r) = record {
   reads_steady = λ a b. ap (λ (w : World). w.source.faults) r.1;
   writes_steady = λ a b. ap (λ (w : World). w.sink.faults) r.1;
   unwritten = λ e. ap (λ (w : World). w.sink.taken) r.1;
+  generated = λ count asks. absurd (r.0 (Generate count, asks));
   at_most_seven = omega arith;
 }
 follows_end words old new status.BadWords (inr r) = record {
@@ -224,9 +261,10 @@ follows_end words old new status.BadWords (inr r) = record {
   no_command = λ no. refl;
   bad_words = λ e. inr r;
   too_long = λ e. absurd (omega arith);
-  reads_steady = λ a b. r.2.1.no_fault;
+  reads_steady = λ a b. read_steady r.0 old.source new.source r.2.0 r.2.1;
   writes_steady = λ a b. r.2.2.2.no_fault;
   unwritten = λ e. r.2.2.2.taken ∙ ap (taken_with old.sink.taken) (no_text r.0 r.2.0 r.2.2.0 r.2.2.1) ∙ taken_with-nothing old.sink.taken;
+  generated = λ count asks. absurd (answered_as words old new (Generate count) status.BadWords r asks).2.1;
   at_most_seven = omega arith;
 }
 follows_end words old new status.TooLong r = record {
@@ -236,12 +274,13 @@ follows_end words old new status.TooLong r = record {
   read_failed = λ e. absurd (omega arith);
   write_failed = λ e. absurd (omega arith);
   cut_short = λ e. absurd (neither_of e (omega arith) (omega arith));
-  no_command = λ none. absurd (none r.0);
+  no_command = λ none. absurd (none (r.0.0, r.0.1));
   bad_words = λ e. absurd (omega arith);
   too_long = λ e. r.1.long;
   reads_steady = λ a b. r.1.no_fault;
   writes_steady = λ a b. r.2.no_fault;
   unwritten = λ e. r.2.taken;
+  generated = λ count asks. absurd (reads_none words count asks r.0);
   at_most_seven = omega arith;
 }
 

@@ -3,7 +3,8 @@ use Rattle.std.specs.Prelude.{◌≡◌, ◌≢◌, ◌≤◌, ◌<◌, ◌^◌,
 use Rattle.std.specs.declared.alloc.Global.{Global}
 use Rattle.bridge_outside.specs.Outside.{Rose}
 use Rattle.bridge_tool.specs.declared.status.Status.TheVariants as status
-use Rattle.bridge_tool.specs.Commands.{AreCommand}
+use Rattle.bridge_tool.specs.Commands.{AreCommand, AskFor}
+use Rattle.bridge_tool.specs.declared.command.Command.TheVariants.{Generate}
 use Rattle.bridge_tool.specs.Running.{World, Asked, IsAnswered, IsCutShort}
 
 -- What follows, number by number.
@@ -24,4 +25,6 @@ pub record Follows (words : List (String Global)) (old new : World) (code : ℕ)
   pub writes_steady : code ≢ 4 → code ≢ 5 → new.sink.faults ≡ old.sink.faults
   -- with 3, 6 and 7 nothing is written
   pub unwritten : (code ≡ 3) ⊎ (code ≡ 6) ⊎ (code ≡ 7) → new.sink.taken ≡ old.sink.taken
+  -- `gen` refuses nothing, and no read fails for it
+  pub generated : (count : ℕ) → AskFor words (Generate count) → (code ≡ 0) ⊎ (code ≡ 4) ⊎ (code ≡ 5)
   pub at_most_seven : code ≤ 7

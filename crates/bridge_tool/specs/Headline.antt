@@ -11,7 +11,7 @@ use Rattle.bridge_tool.specs.Commands.{AskFor}
 use Rattle.bridge_tool.specs.Checking.{BreaksNothing, ExplainsNothing, HasPage, IsRefusedWith}
 use Rattle.bridge_tool.specs.Running.{World}
 use Rattle.bridge_tool.specs.declared.command.Command.{Command}
-use Rattle.bridge_tool.specs.declared.command.Command.TheVariants.{Check, Explain, Links}
+use Rattle.bridge_tool.specs.declared.command.Command.TheVariants.{Check, Explain, Generate, Links}
 
 -- The words ask for the command, the source tells these bytes, and no count of faults rises or stands at the last value of its type.
 pub record IsUndisturbed (words : List (String Global)) (asked : Command) (old new : World) (had : List ℕ) : Type 0 where
@@ -65,9 +65,12 @@ pub record SettlesExplain (question : Question) (had : List ℕ) (code : ℕ) : 
 abbrev pub Settles : Command → List ℕ → ℕ → Type 0
 Settles Check had code = SettlesCheck had code
 Settles (Explain question) had code = SettlesExplain question had code
+Settles (Generate count) had code = code ≡ 0
 Settles Links had code = SettlesLinks had code
 
--- COMPLETENESS: where nothing disturbs a command, its bytes settle the status, but for want of memory.
-abbrev pub IsComplete : List (String Global) → World → World → ℕ → Type 0
-IsComplete words old new code =
-    (had : List ℕ) (command : Command) → IsUndisturbed words command old new had → (code ≡ 5) ⊎ Settles command had code
+-- COMPLETENESS, but for want of memory.
+pub record IsComplete (words : List (String Global)) (old new : World) (code : ℕ) : Type 0 where
+  -- where nothing disturbs a command, the source's bytes settle the status
+  pub settled : (had : List ℕ) (command : Command) → IsUndisturbed words command old new had → (code ≡ 5) ⊎ Settles command had code
+  -- `gen` ends with 0 whatever the source is, where no write fails
+  pub generated : (count : ℕ) → AskFor words (Generate count) → ¬ (Rose old.sink.faults new.sink.faults) → (code ≡ 5) ⊎ (code ≡ 0)

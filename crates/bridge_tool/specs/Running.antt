@@ -3,17 +3,18 @@ use Rattle.std.specs.Prelude.{◌≡◌, ◌≤◌, ◌<◌, ◌^◌, ◌⊎◌,
 use Rattle.std.specs.declared.alloc.Global.{Global}
 use Rattle.bridge_read.specs.declared.input.Input.{Input}
 use Rattle.bridge_read.specs.Inputs.{SpellsInput}
+use Rattle.bridge_measure.specs.Measured.{IsMeasuredAs}
 use Rattle.bridge_outside.specs.Outside.{Rose, SinkState, SourceState, taken_with}
 use Rattle.bridge_printing.specs.Lines.{lines}
 use Rattle.bridge_explain.specs.Inquiry.{Inquiry as Question}
 use Rattle.bridge_tool.specs.declared.status.Status.{Status}
 use Rattle.bridge_tool.specs.declared.status.Status.TheVariants as status
-use Rattle.bridge_tool.specs.Commands.{AreCommand, AskFor}
+use Rattle.bridge_tool.specs.Commands.{AreCommand, AreReading, AskFor}
 use Rattle.bridge_tool.specs.Checking.{BreaksNothing, ExplainsNothing, HasExplanation, HasPage, IsRefusedWith}
 use Rattle.bridge_tool.specs.Declining.{AreFaulty}
 use Rattle.bridge_tool.specs.DocsPage.{docs_page}
 use Rattle.bridge_tool.specs.declared.command.Command.{Command}
-use Rattle.bridge_tool.specs.declared.command.Command.TheVariants.{Check, Explain, Links}
+use Rattle.bridge_tool.specs.declared.command.Command.TheVariants.{Check, Explain, Generate, Links}
 use Rattle.hir_reports.specs.declared.report.LoweringReport.{LoweringReport}
 use Rattle.bridge_tool.specs.Statuses.{code_of}
 
@@ -62,10 +63,22 @@ AnswersExplain question bytes status.BadWords text =
     (input : Input) × SpellsInput bytes input × BreaksNothing input × ExplainsNothing input question × (text ≡ [])
 AnswersExplain question bytes status.TooLong text = ⊥
 
+-- The text that answers `gen`: 0, the three lines that sum up as many made structs and functions.
+abbrev pub AnswersGenerate : ℕ → Status → List ℕ → Type 0
+AnswersGenerate count status.Accepted text = IsMeasuredAs count text
+AnswersGenerate count status.Refused text = ⊥
+AnswersGenerate count status.NotDeclarations text = ⊥
+AnswersGenerate count status.ReadFailed text = ⊥
+AnswersGenerate count status.WriteFailed text = ⊥
+AnswersGenerate count status.NoMemory text = ⊥
+AnswersGenerate count status.BadWords text = ⊥
+AnswersGenerate count status.TooLong text = ⊥
+
 -- The text that answers a command.
 abbrev pub Answers : Command → List ℕ → Status → List ℕ → Type 0
 Answers Check bytes = AnswersCheck bytes
 Answers (Explain question) bytes = AnswersExplain question bytes
+Answers (Generate count) bytes = AnswersGenerate count
 Answers Links bytes = AnswersLinks bytes
 
 -- These are all the bytes that the source had, at most 2^26; no read failed, and it has none left.
@@ -74,6 +87,13 @@ pub record WereRead (old new : SourceState) (bytes : List ℕ) : Type 0 where
   pub short : length bytes ≤ 2 ^ 26
   pub none_left : IfSome old.left (λ had. new.left ≡ Some [])
   pub no_fault : new.faults ≡ old.faults
+
+-- These bytes were read for a command. For `gen` nothing is read.
+abbrev pub WereReadFor : Command → SourceState → SourceState → List ℕ → Type 0
+WereReadFor Check old new bytes = WereRead old new bytes
+WereReadFor (Explain question) old new bytes = WereRead old new bytes
+WereReadFor (Generate count) old new bytes = new ≡ old
+WereReadFor Links old new bytes = WereRead old new bytes
 
 -- The source had more than 2^26 bytes, where it tells them, and no read failed.
 pub record IsTooLong (old new : SourceState) : Type 0 where
@@ -100,14 +120,16 @@ pub record FirstPart (P : Status → List ℕ → Type 0) (old new : SinkState) 
   pub parts : sent ++ rest ≡ text
   pub took : new.taken ≡ taken_with old.taken sent
 
--- All bytes were read, and the sink took exactly the text that answers the command with this status.
+-- All was read for the command, and the sink took exactly the text that answers it with this status.
 abbrev pub IsAnswered : Command → World → World → Status → Type 0
 IsAnswered command old new status =
-    (bytes : List ℕ) × WereRead old.source new.source bytes × ((text : List ℕ) × Answers command bytes status text × WasTaken old.sink new.sink text)
+    (bytes : List ℕ) × WereReadFor command old.source new.source bytes
+    × ((text : List ℕ) × Answers command bytes status text × WasTaken old.sink new.sink text)
 
--- All bytes were read, and the sink took a first part of a text that answers the command.
+-- All was read for the command, and the sink took a first part of a text that answers it.
 abbrev pub IsCutShort : Command → World → World → Type 0
-IsCutShort command old new = (bytes : List ℕ) × WereRead old.source new.source bytes × FirstPart (Answers command bytes) old.sink new.sink
+IsCutShort command old new =
+    (bytes : List ℕ) × WereReadFor command old.source new.source bytes × FirstPart (Answers command bytes) old.sink new.sink
 
 -- The words ask for a command of which P holds.
 abbrev pub Asked : List (String Global) → (Command → Type 0) → Type 0
@@ -118,11 +140,11 @@ abbrev pub Says : List (String Global) → World → World → Status → Type 0
 Says words old new status.Accepted = Asked words (λ command. IsAnswered command old new status.Accepted)
 Says words old new status.Refused = Asked words (λ command. IsAnswered command old new status.Refused)
 Says words old new status.NotDeclarations = Asked words (λ command. IsAnswered command old new status.NotDeclarations)
-Says words old new status.ReadFailed = AreCommand words × Rose old.source.faults new.source.faults × NothingTaken old.sink new.sink
+Says words old new status.ReadFailed = AreReading words × Rose old.source.faults new.source.faults × NothingTaken old.sink new.sink
 Says words old new status.WriteFailed = Asked words (λ command. Rose old.sink.faults new.sink.faults × IsCutShort command old new)
 Says words old new status.NoMemory = Asked words (λ command. (new.sink.taken ≡ old.sink.taken) ⊎ IsCutShort command old new)
 Says words old new status.BadWords = (¬ (AreCommand words) × (new ≡ old)) ⊎ Asked words (λ command. IsAnswered command old new status.BadWords)
-Says words old new status.TooLong = AreCommand words × IsTooLong old.source new.source × NothingTaken old.sink new.sink
+Says words old new status.TooLong = AreReading words × IsTooLong old.source new.source × NothingTaken old.sink new.sink
 
 -- the run ended with the number of a status, and what this status says is so
 abbrev pub Ran : List (String Global) → World → World → ℕ → Type 0

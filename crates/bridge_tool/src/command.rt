@@ -1,8 +1,10 @@
 //! What the words of a command line ask for.
 
-ghost use Rattle.std.specs.Prelude.{◌≡◌, ◌≤◌, ◌<◌, ◌^◌, String, MatchOption, codes, decimal, map, option_map, string_bytes, if◌then◌else◌, None};
+ghost use Rattle.std.specs.Prelude.{◌≡◌, ◌≤◌, ◌<◌, ◌^◌, String, IfSome, MatchOption, codes, decimal, map};
+ghost use Rattle.std.specs.Prelude.{string_bytes, if◌then◌else◌, None};
 ghost use Rattle.std.specs.Str.{bytes_eq};
-ghost use Rattle.bridge_tool.specs.Commands.{command_of, command_named, digits_after, explaining, number_in};
+ghost use Rattle.bridge_tool.specs.Commands.{IsWithin, command_named, command_of, digits_after, explaining};
+ghost use Rattle.bridge_tool.specs.Commands.{generating, generating_all, number_in, reads};
 
 use bridge_explain::Question;
 use itoa::Buffer;
@@ -14,8 +16,22 @@ pub enum Command<'w> {
     Check,
     /// Why a leaf is listed under a lifetime, or why it isn't: the word `explain`, a callable, a leaf and the number of a lifetime.
     Explain(Question<'w>),
+    /// How much is listed of so many made structs and functions: the word `gen`, and their number, from 1 to 10,000.
+    Generate(usize),
     /// Where the declarations are documented: the word `links`.
     Links,
+}
+
+/// No more structs and functions are made.
+const MOST_GENERATED: usize = 10_000;
+
+impl Command<'_> {
+    /// Whether it is asked of the source's bytes: `gen` makes its own declarations.
+    pub fn reads(&self) -> bool
+        ensures { result ≡ reads self.now }
+    {
+        !matches!(self, Command::Generate(_))
+    }
 }
 
 /// The command of that name.
@@ -72,6 +88,37 @@ fn explaining<'w>(callable: &'w str, leaf: &'w str, number: &str) -> Option<Comm
     }
 }
 
+/// The command `gen` for so many, where they are from 1 to 10,000.
+fn generating_all<'w>(count: usize) -> Option<Command<'w>>
+    ensures { result ≡ generating_all count }
+{
+    if count > 0 && count <= MOST_GENERATED {
+        Some(Command::Generate(count))
+    } else {
+        None
+    }
+}
+
+/// The command `gen`, by the word after it.
+fn generating<'w>(number: &str) -> Option<Command<'w>>
+    ensures { result ≡ generating number.now }
+{
+    match number_in(number) {
+        Some(count) => generating_all(count),
+        None => None,
+    }
+}
+
+/// The command of two words.
+fn command_of_two<'w>(word: &str, number: &str) -> Option<Command<'w>>
+    ensures { result ≡ if bytes_eq word.now (codes "gen") then generating number.now else None }
+{
+    match word {
+        "gen" => generating(number),
+        _ => None,
+    }
+}
+
 /// The command of four words.
 fn command_of_four<'w>(
     word: &str,
@@ -90,11 +137,13 @@ fn command_of_four<'w>(
 
 /// The command that the words after the program's name ask for, if they do.
 pub fn command_of<'w>(words: &'w [String]) -> Option<Command<'w>>
-    ensures { result ≡ command_of (map string_bytes words.now) }
+    ensures command { result ≡ command_of (map string_bytes words.now) }
+    ensures within { IfSome result (λ command. IsWithin command) }
 {
     match words {
         [] => Some(Command::Check),
         [word] => command_named(word.as_str()),
+        [word, number] => command_of_two(word.as_str(), number.as_str()),
         [word, callable, leaf, number] => command_of_four(
             word.as_str(),
             callable.as_str(),

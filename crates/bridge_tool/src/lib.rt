@@ -32,9 +32,11 @@
 //! Asked for `links` (`command`), it prints a line for each link of the declarations to documentation in place of steps 2 and 3, and tests no rule
 //! (`docs`).
 //!
+//! For `gen` nothing is read: declarations are made from a number, and it is told how much their callables list (`bridge_measure`).
+//!
 //! What a run promises is the contract of `run`, in six clauses: the headline (0 exactly where no rule is broken, with exactly the
 //! page; else 1 with the reports), completeness (the bytes settle the status, but for want of memory), what each status says, and that it
-//! reads nothing where the words are no command, never reads past what it needs, and leaves the end of the source as it was.
+//! reads nothing where the words ask for nothing that reads, never reads past what it needs, and leaves the end of the source as it was.
 //! `what_statuses_say` states what follows from the third, status by status.
 #![tactic(auto)]
 

@@ -1,6 +1,6 @@
 //! The whole program over any source and any sink.
 
-ghost use Rattle.std.specs.Prelude.{◌≡◌, ◌≤◌, ◌+◌, ◌^◌, ℕ, List, String};
+ghost use Rattle.std.specs.Prelude.{◌≡◌, ◌≤◌, ◌+◌, ◌^◌, ℕ, List, String, false};
 ghost use Rattle.std.specs.declared.alloc.Global.{Global as Allocator};
 ghost use Rattle.bridge_explain.specs.Inquiry.{Inquiry};
 ghost use Rattle.bridge_lowering.specs.Answers.{AreAcceptedWith};
@@ -9,11 +9,12 @@ ghost use Rattle.bridge_read.specs.Inputs.{IsToldOf, Refuses, SpellsInput};
 ghost use Rattle.bridge_report.specs.Borrowings.{AreReported};
 ghost use Rattle.bridge_report.specs.InContext.{callables};
 ghost use Rattle.bridge_read.specs.declared.input.Input.{Input as Read};
-ghost use Rattle.bridge_tool.specs.Commands.{AreCommand, AskFor};
+ghost use Rattle.bridge_tool.specs.Commands.{AreReading, AskFor, IsWithin, reads};
 ghost use Rattle.bridge_tool.specs.Checking.{IsRefusedWith};
 ghost use Rattle.bridge_tool.specs.Following.{Follows};
 ghost use Rattle.bridge_tool.specs.Headline.{Headline, IsComplete};
-ghost use Rattle.bridge_tool.specs.Running.{Answers, AnswersCheck, AnswersExplain, AnswersLinks, Ran, Says, World, world};
+ghost use Rattle.bridge_tool.specs.Running.{Answers, AnswersCheck, AnswersExplain, AnswersGenerate, AnswersLinks};
+ghost use Rattle.bridge_tool.specs.Running.{Ran, Says, World, world};
 ghost use Rattle.bridge_tool.specs.inside.Answering.{Printed, TellsOf, ended_with};
 ghost use Rattle.hir_backends.specs.Validator.{basic_meaning};
 
@@ -24,6 +25,7 @@ use crate::status::Status;
 use crate::text::print_text;
 use bridge_explain::{Question, explain, print_explanation};
 use bridge_lowering::{LowerFault, lower_and_borrow};
+use bridge_measure::{measured, print_measured};
 use bridge_outside::{ReadFault, Sink, SinkFault, Source, read_all};
 use bridge_page::print_page;
 use bridge_printing::print_reports;
@@ -187,32 +189,54 @@ fn links<K: Sink>(alloc: Global, bytes: &[u8], sink: &mut K) -> Status
     }
 }
 
-/// Answers a command of the bytes that were read.
+/// Makes so many structs and functions, and prints the summary of what they list.
+fn generate<K: Sink>(alloc: Global, count: usize, sink: &mut K) -> Status
+    requires one { 1 ≤ count }
+    requires most { count ≤ 10000 }
+    ensures { Printed (AnswersGenerate count) (K.state sink.old) (K.state sink.new) result }
+{
+    match measured(alloc, count) {
+        Ok(report) => {
+            let printed = print_measured(sink, &report);
+            ended(Status::Accepted, printed)
+        }
+        Err(AllocError) => Status::NoMemory,
+    }
+}
+
+/// Answers a command, where it is asked of bytes that were read by these.
 fn obey<K: Sink>(alloc: Global, command: &Command<'_>, bytes: &[u8], sink: &mut K) -> Status
+    requires { IsWithin command.now }
     ensures { Printed (Answers command.now bytes.now) (K.state sink.old) (K.state sink.new)
         result }
 {
     match command {
         Command::Check => check(alloc, bytes, sink),
         Command::Explain(question) => explain_read(alloc, question, bytes, sink),
+        Command::Generate(count) => generate(alloc, *count, sink),
         Command::Links => links(alloc, bytes, sink),
     }
 }
 
-/// Reads all of the source, and answers a command.
-fn read_and_obey<S: Source, K: Sink>(
+/// Answers a command: all of the source is read for it, unless it makes its own declarations.
+fn answer<S: Source, K: Sink>(
     alloc: Global,
     command: &Command<'_>,
     source: &mut S,
     sink: &mut K,
 ) -> Status
+    requires { IsWithin command.now }
     ensures says { (words : List (String Allocator)) → AskFor words command.now
         → Says words (world (S.state source.old) (K.state sink.old))
         (world (S.state source.new) (K.state sink.new)) result }
     ensures few_reads { (S.state source.new).calls ≤ (S.state source.old).calls + (2 ^ 26 + 2) }
     ensures rest { (n : ℕ)
         × ((S.state source.new).left ≡ left_after n (S.state source.old).left) }
+    ensures untouched { reads command.now ≡ false → source.new ≡ source.old }
 {
+    if !command.reads() {
+        return obey(alloc, command, &[], sink);
+    }
     match read_all(alloc, source) {
         Ok(bytes) => obey(alloc, command, &bytes, sink),
         Err(ReadFault::Failed) => Status::ReadFailed,
@@ -233,22 +257,23 @@ fn run_to_status<S: Source, K: Sink>(
     ensures few_reads { (S.state source.new).calls ≤ (S.state source.old).calls + (2 ^ 26 + 2) }
     ensures rest { (n : ℕ)
         × ((S.state source.new).left ≡ left_after n (S.state source.old).left) }
-    ensures untouched { ¬ (AreCommand words.now) → source.new ≡ source.old }
+    ensures untouched { ¬ (AreReading words.now) → source.new ≡ source.old }
 {
     match command_of(words) {
-        Some(command) => read_and_obey(alloc, &command, source, sink),
+        Some(command) => answer(alloc, &command, source, sink),
         None => Status::BadWords,
     }
 }
 
-/// Runs the program: reads all of the source, and prints to the sink what the words after the program's name ask for. For `check`, or
-/// without a word, that is the page of the declarations, or the reports of the rules that they break. For `links` it is a line for each
+/// Runs the program: prints to the sink what the words after the program's name ask for. For `check`, or without a word, all of the source is read, and
+/// the page of the declarations is printed, or the reports of the rules that they break. For `links` it is a line for each
 /// link of the declarations to documentation, and no rule is tested. For `explain`, with a callable, a leaf and the number of a lifetime, it is
-/// why the leaf is listed under the lifetime, or why it isn't, or the reports. Where the bytes spell no input it is one line that says why. The
-/// answer is the status of the program, at most 7.
+/// why the leaf is listed under the lifetime, or why it isn't, or the reports. Where the bytes spell no input it is one line that says why. For
+/// `gen`, with a number from 1 to 10,000, nothing is read: it sums up as many made structs and functions. The answer is the status of the program,
+/// at most 7.
 ///
-/// Statuses: 0 where the declarations are accepted, or their links or an explanation are printed, 1 where they break a rule, 2 where the bytes spell no
-/// declarations that fit together, 3 where a read failed, 4 where a write failed, 5 where memory ran out, 6 where
+/// Statuses: 0 where the declarations are accepted, or their links, an explanation or the summary are printed, 1 where they break a rule, 2 where the
+/// bytes spell no declarations that fit together, 3 where a read failed, 4 where a write failed, 5 where memory ran out, 6 where
 /// the words are no command, or `explain` asks about no callable, leaf or returned lifetime of accepted declarations, 7 where the source
 /// gave more than 2^26 bytes. With 3, 6 and 7 nothing is written, and where the words are no command nothing is read. It makes at most
 /// 2^26 + 2 reads.
@@ -257,14 +282,15 @@ pub fn run<S: Source, K: Sink>(alloc: Global, words: &[String], source: &mut S, 
     // declaration breaks a rule, and prints their page; else it ends with 1, and prints reports of the broken rules.
     ensures headline { Headline words.now (world (S.state source.old) (K.state sink.old))
         (world (S.state source.new) (K.state sink.new)) result }
-    // Where the bytes are told and nothing fails: 0, 1, 2 and 7 each come exactly where the bytes say so, but for want of memory.
+    // Where the bytes are told and nothing fails: 0, 1, 2 and 7 each come exactly where the bytes say so, but for want of memory; and `gen` ends with
+    // 0, whatever the source is.
     ensures complete { IsComplete words.now (world (S.state source.old) (K.state sink.old))
         (world (S.state source.new) (K.state sink.new)) result }
     // What each status says of the words, of what was read and of what was written.
     ensures says { Ran words.now (world (S.state source.old) (K.state sink.old))
         (world (S.state source.new) (K.state sink.new)) result }
-    // Words that are no command have nothing read.
-    ensures unread { ¬ (AreCommand words.now) → source.new ≡ source.old }
+    // Only for a command that is asked of the source's bytes is any read.
+    ensures unread { ¬ (AreReading words.now) → source.new ≡ source.old }
     // Also where nothing is told of the bytes.
     ensures few_reads { (S.state source.new).calls ≤ (S.state source.old).calls + (2 ^ 26 + 2) }
     // What the source has left is the end of what it had, whatever the status.

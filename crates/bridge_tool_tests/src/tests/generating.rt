@@ -1,9 +1,10 @@
 //! Declarations of any size, lowered and summed up: of each eight functions the first may return two leaves, the next three, and the last nine.
 
+use super::program::{runs_to, words_of};
 use bridge_ast::Env;
 use bridge_generate::generated;
 use bridge_summary::print_summary;
-use bridge_tool::{PlainSink, lower_and_borrow, read_input};
+use bridge_tool::{MemSink, MemSource, PlainSink, lower_and_borrow, read_input, run};
 use std::alloc::{AllocError, Global};
 use std::test::*;
 
@@ -28,9 +29,7 @@ fn sum_up_to(alloc: Global, env: &Env, text: &str) -> Result<bool, AllocError> {
 #[test]
 fn generated_declarations_break_no_rule(rt: HostRuntime) -> Result<(), Fail> {
     let alloc = rt.alloc();
-    assert!(rt; sum_up_to(alloc, &generated(alloc, 1)?, "callables 1\nlisted 2\nok\n")?);
     assert!(rt; sum_up_to(alloc, &generated(alloc, 8)?, "callables 8\nlisted 44\nok\n")?);
-    assert!(rt; sum_up_to(alloc, &generated(alloc, 9)?, "callables 9\nlisted 46\nok\n")?);
     assert!(rt;
         sum_up_to(
             alloc,
@@ -38,5 +37,88 @@ fn generated_declarations_break_no_rule(rt: HostRuntime) -> Result<(), Fail> {
             "callables 10000\nlisted 55000\nok\n"
         )?
     );
+    Ok(())
+}
+
+// How many structs and functions are made, and their summary.
+const SUMMARIES: [(&str, &str); 5] = [
+    ("1", "callables 1\nlisted 2\nok\n"),
+    ("7", "callables 7\nlisted 35\nok\n"),
+    ("8", "callables 8\nlisted 44\nok\n"),
+    ("9", "callables 9\nlisted 46\nok\n"),
+    ("10000", "callables 10000\nlisted 55000\nok\n"),
+];
+
+#[test]
+fn made_declarations_are_summed_up(rt: HostRuntime) -> Result<(), Fail> {
+    for (count, text) in SUMMARIES {
+        assert!(rt;
+            runs_to(rt.alloc(), &["gen", count], "", 0, text)?,
+            "{count}"
+        );
+        // Whatever the input is, it isn't read.
+        assert!(rt;
+            runs_to(rt.alloc(), &["gen", count], "{", 0, text)?,
+            "{count}"
+        );
+    }
+    Ok(())
+}
+
+// Words after `gen` that are no number from 1 to 10,000.
+const NO_COUNTS: [&str; 14] = [
+    "",
+    "0",
+    "00",
+    "08",
+    "+8",
+    "-8",
+    "8 ",
+    " 8",
+    "8.0",
+    "eight",
+    "10001",
+    "4294967304",
+    "18446744073709551624",
+    "340282366920938463463374607431768211464",
+];
+
+#[test]
+fn counts_are_from_1_to_10000(rt: HostRuntime) -> Result<(), Fail> {
+    let alloc = rt.alloc();
+    for count in NO_COUNTS {
+        assert!(rt;
+            runs_to(alloc, &["gen", count], FUNCTIONS, 6, "")?,
+            "{count}"
+        );
+    }
+    assert!(rt; runs_to(alloc, &["gen"], FUNCTIONS, 6, "")?);
+    assert!(rt; runs_to(alloc, &["Gen", "8"], FUNCTIONS, 6, "")?);
+    assert!(rt; runs_to(alloc, &["gen", "8", "8"], FUNCTIONS, 6, "")?);
+    assert!(rt; runs_to(alloc, &["8", "gen"], FUNCTIONS, 6, "")?);
+    assert!(rt; runs_to(alloc, &["check", "8"], FUNCTIONS, 6, "")?);
+    Ok(())
+}
+
+// The status of `gen 8`, and the bytes of the summary that were taken, where all reads fail and a write does.
+fn over_failing(alloc: Global, write: usize) -> Result<Option<(u8, usize)>, AllocError> {
+    let words = words_of(alloc, &["gen", "8"])?;
+    let mut source = MemSource::new(alloc, FUNCTIONS.as_bytes(), 1, &[0])?;
+    let mut sink = MemSink::new(alloc, 10, &[write])?;
+    let end = run(alloc, &words, &mut source, &mut sink);
+    if !b"callables 8\nlisted 44\nok\n".starts_with(sink.bytes()) {
+        return Ok(None);
+    }
+    Ok(Some((end, sink.bytes().len())))
+}
+
+// The summary has 25 bytes: in pieces of 10, three writes.
+#[test]
+fn no_read_fails_where_nothing_is_read(rt: HostRuntime) -> Result<(), Fail> {
+    let alloc = rt.alloc();
+    assert_eq!(rt; over_failing(alloc, 3)?, Some((0, 25)));
+    assert_eq!(rt; over_failing(alloc, 0)?, Some((4, 0)));
+    assert_eq!(rt; over_failing(alloc, 1)?, Some((4, 10)));
+    assert_eq!(rt; over_failing(alloc, 2)?, Some((4, 20)));
     Ok(())
 }

@@ -5,8 +5,8 @@ use bridge_tool::{MemSink, MemSource, PlainSink, PlainSource, run};
 use std::alloc::{AllocError, Global};
 use std::test::*;
 
-// The words of a command line.
-fn words_of(alloc: Global, texts: &[&str]) -> Result<Vec<String>, AllocError> {
+/// The words of a command line.
+pub fn words_of(alloc: Global, texts: &[&str]) -> Result<Vec<String>, AllocError> {
     let mut words = Vec::new(alloc);
     for text in texts {
         words.push(String::from_str(alloc, text)?)?;

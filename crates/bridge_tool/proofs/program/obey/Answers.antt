@@ -8,3 +8,6 @@ returns-in-Explain g c = rw c.in-Explain.is c.explain_read.ensures
 
 pub returns-in-Links : goal.returns-in-Links
 returns-in-Links g c = rw c.in-Links.is c.links.ensures
+
+pub returns-in-Generate : goal.returns-in-Generate
+returns-in-Generate g c = rw c.in-Generate.is c.generate.ensures
