@@ -30,7 +30,8 @@ use Rattle.hir_number.specs.Naming.{Naming}
 use Rattle.hir_number.specs.Signatures.{without_writer}
 use Rattle.hir_readings.specs.Declared.{declared_methods, enabled_methods_of, found_methods}
 use Rattle.hir_reports.specs.Store.{at_place}
-use Rattle.bridge_measure.specs.inside.Made.{AreKnown, IsMadeAt, function_place, made}
+use Rattle.bridge_measure.specs.Measured.{measured}
+use Rattle.bridge_measure.specs.inside.Made.{AreAsMade, IsMadeAt, function_place}
 use Rattle.bridge_measure.proofs.SignatureLemmas.{made_signature, signature_is}
 use Rattle.bridge_measure.proofs.OrderLemmas.{functions_stand}
 
@@ -44,40 +45,40 @@ either_way false x = refl
 
 module _ (count : ℕ) (backend : Backend) (config : LoweringConfig) (names : ℕ → Naming) (catalog : Catalog) where
   abbrev it : Interface
-  it = interface_of (made count) backend config names catalog
+  it = interface_of (measured count) backend config names catalog
 
   -- the callable of the function of a number
   abbrev pub made_callable : ℕ → Callable
   made_callable k =
-      signature_callable it (callable.Function k) (at_place (path_of_place (made count) (function_place count k)) (function_name k) None) None
+      signature_callable it (callable.Function k) (at_place (path_of_place (measured count) (function_place count k)) (function_name k) None) None
       (without_writer (params_of k)) (made_signature k)
 
-  module _ (known : AreKnown count (names 0) catalog)
-      (found_is : (place : ItemPlace) (found : Module × Item) → found_at (made count) place ≡ Some found
+  module _ (known : AreAsMade count (names 0) catalog)
+      (found_is : (place : ItemPlace) (found : Module × Item) → found_at (measured count) place ≡ Some found
       → (found.0 ≡ generated_module count) × IsMadeAt count place found.1)
       (function_found : (k : ℕ) → k < count
-      → found_at (made count) (function_place count k) ≡ Some (generated_module count, item.Function (function_numbered k)))
+      → found_at (measured count) (function_place count k) ≡ Some (generated_module count, item.Function (function_numbered k)))
     where
       -- ---- types have no methods
 
       none_enabled : (owner : Module) (attrs : Attrs) → enabled_methods_of it owner attrs [] ≡ []
-      none_enabled owner attrs = either_way (item_marks backend (module_marks backend (made count) owner) attrs).disable []
+      none_enabled owner attrs = either_way (item_marks backend (module_marks backend (measured count) owner) attrs).disable []
 
       found_none : (place : ItemPlace) (found : Module × Item) → IsMadeAt count place found.1 → found_methods it found ≡ []
       found_none place (owner, found) (IsMadeAt.opaque place_is is) = ap (λ i. found_methods it (owner, i)) is ∙ none_enabled owner plain_attrs
       found_none place (owner, found) (IsMadeAt.struct k within place_is is) = ap (λ i. found_methods it (owner, i)) is ∙ none_enabled owner plain_attrs
       found_none place (owner, found) (IsMadeAt.function k within place_is is) = ap (λ i. found_methods it (owner, i)) is
 
-      where_none : (place : ItemPlace) (o : Option (Module × Item)) → found_at (made count) place ≡ o → where_any (found_methods it) o ≡ []
+      where_none : (place : ItemPlace) (o : Option (Module × Item)) → found_at (measured count) place ≡ o → where_any (found_methods it) o ≡ []
       where_none place None is = refl
       where_none place (Some found) is = found_none place found (found_is place found is).1
 
       no_methods : (place : ItemPlace) → declared_methods it place ≡ []
-      no_methods place = where_none place (found_at (made count) place) refl
+      no_methods place = where_none place (found_at (measured count) place) refl
 
       none_of_kind : (k : Kind) (id : ℕ → TypeId) → kind_callables it k id ≡ []
       none_of_kind k id =
-          flat_none (type_callables_at it id) (enumerate_from 0 (places_of (made count) k))
+          flat_none (type_callables_at it id) (enumerate_from 0 (places_of (measured count) k))
           (λ numbered. ap (λ methods. flat_map (method_callable it (id numbered.0) numbered.1) (enumerate_from 0 methods)) (no_methods numbered.1))
 
       -- ---- functions
@@ -85,7 +86,7 @@ module _ (count : ℕ) (backend : Backend) (config : LoweringConfig) (names : �
       function_here : (k : ℕ) → k < count → declared_function_callable it (k, function_place count k) ≡ made_callable k ∷ []
       function_here k within =
           ap (where_any (found_function_callable it k (function_place count k))) (function_found k within)
-          ∙ ap (numbered_callable it (callable.Function k) (at_place (path_of_place (made count) (function_place count k)) (function_name k) None) None
+          ∙ ap (numbered_callable it (callable.Function k) (at_place (path_of_place (measured count) (function_place count k)) (function_name k) None) None
           (without_writer (params_of k))) (signature_is count (names 0) catalog known k within)
 
       functions_here : (a n : ℕ) → a + n ≤ count
@@ -99,7 +100,7 @@ module _ (count : ℕ) (backend : Backend) (config : LoweringConfig) (names : �
 
       pub callables_are : declared_callables it ≡ map made_callable (range_with_len 0 count)
       callables_are =
-          let functions = flat_map (declared_function_callable it) (enumerate_from 0 (places_of (made count) kind.Function)) in
+          let functions = flat_map (declared_function_callable it) (enumerate_from 0 (places_of (measured count) kind.Function)) in
           let enums = kind_callables it kind.Enum type.Enum in
           let opaques = kind_callables it kind.Opaque type.Opaque in
           let out_structs = kind_callables it kind.OutStruct type.OutStruct in

@@ -16,7 +16,7 @@ use Rattle.hir_life.specs.declared.maybe_static.MaybeStatic.{MaybeStatic}
 use Rattle.hir_number.specs.Naming.{Naming}
 use Rattle.hir_number.specs.declared.numbered.NumberedType.{NumberedType, out-roll-NumberedType}
 use Rattle.hir_number.specs.declared.numbered.NumberedType.TheOpen.{NumberedType-F}
-use Rattle.bridge_measure.specs.inside.Made.{AreKnown}
+use Rattle.bridge_measure.specs.inside.Made.{AreAsMade}
 use Rattle.bridge_measure.proofs.FilledLemmas.{borrowed_type, named_type, opaque_target, struct_target, struct_type}
 
 -- the outermost levels of the types
@@ -26,7 +26,7 @@ borrowed_level n = NumberedType-F.Reference n Immutable (named_type opaque_targe
 abbrev pub struct_level : ℕ → List (MaybeStatic ℕ) → NumberedType-F NumberedType
 struct_level k ns = NumberedType-F.Named (struct_target k ns)
 
-module _ (count : ℕ) (names : Naming) (catalog : Catalog) (known : AreKnown count names catalog) (support : BackendAttrSupport)
+module _ (count : ℕ) (names : Naming) (catalog : Catalog) (known : AreAsMade count names catalog) (support : BackendAttrSupport)
     (config : LoweringConfig)
   where
     -- ---- `&'a O`

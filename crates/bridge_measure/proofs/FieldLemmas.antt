@@ -22,7 +22,7 @@ use Rattle.hir_number.specs.Numbers.{signature_numbers}
 use Rattle.hir_number.specs.Signatures.{field_uses}
 use Rattle.hir_number.specs.declared.numbered.NumberedType.{out-roll-NumberedType}
 use Rattle.hir_signatures.specs.Errors.{breach_error}
-use Rattle.bridge_measure.specs.inside.Made.{AreKnown}
+use Rattle.bridge_measure.specs.inside.Made.{AreAsMade}
 use Rattle.bridge_measure.proofs.EmptyLemmas.{both_empty}
 use Rattle.bridge_measure.proofs.FaultLemmas.{borrowed_field, borrowed_level, struct_field, struct_level}
 use Rattle.bridge_measure.proofs.FilledLemmas.{borrowed_type, fields_filled, struct_type, types_if}
@@ -35,7 +35,7 @@ heads_fine backend true k = ap (λ errors. (errors ++ []) ++ []) x_fine
 heads_fine backend false k =
     ap (λ errors. (errors ++ []) ++ ((name_errors (codes "s") ++ []) ++ [])) x_fine ∙ ap (λ errors. (errors ++ []) ++ []) s_fine
 
-module _ (count : ℕ) (names : Naming) (catalog : Catalog) (known : AreKnown count names catalog) (backend : Backend) (config : LoweringConfig) where
+module _ (count : ℕ) (names : Naming) (catalog : Catalog) (known : AreAsMade count names catalog) (backend : Backend) (config : LoweringConfig) where
   -- ---- their types, by themselves
 
   borrowed_fine : (name : List ℕ) (n : MaybeStatic ℕ) → struct_type_errors backend.supports catalog name (borrowed_type n) ≡ []

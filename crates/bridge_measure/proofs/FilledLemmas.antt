@@ -23,7 +23,7 @@ use Rattle.hir_number.specs.declared.numbered.Target.{Target}
 use Rattle.hir_number.specs.declared.signature.NumberedSignature.{NumberedSignature}
 use Rattle.hir_stages.specs.Filling.{Fill, fill_each, fill_output, fill_type, first_list, level_fill, others_of, then_made}
 use Rattle.hir_stages.specs.Numbering.{filled_fields, filled_function}
-use Rattle.bridge_measure.specs.inside.Made.{AreKnown, opaque_place, struct_place}
+use Rattle.bridge_measure.specs.inside.Made.{AreAsMade, opaque_place, struct_place}
 use Rattle.bridge_measure.proofs.TypeLemmas.{fold_named, fold_reference}
 use Rattle.bridge_measure.proofs.UseLemmas.{function_numbers, no_writer, numbers_if, struct_if}
 
@@ -80,7 +80,7 @@ fill_next : {A : Type 0} (f : Fill A) (fs : List (Fill A)) (ns rest : NumberList
     → fill_each (f ∷ fs) ns ≡ then_made (λ xs. x ∷ xs) (fill_each fs rest)
 fill_next f fs ns rest x is = ap (λ made. then_made (λ xs. made.0 ∷ xs) (fill_each fs made.1)) is
 
-module _ (count : ℕ) (names : Naming) (catalog : Catalog) (known : AreKnown count names catalog) where
+module _ (count : ℕ) (names : Naming) (catalog : Catalog) (known : AreAsMade count names catalog) where
   pub borrowed_shape : (name : List ℕ) → shape names (opaque_borrowed_for name) ≡ borrowed_type Static
   borrowed_shape name =
       fold_reference (λ x. roll-NumberedType (level_shape names x)) (Named name) Immutable (type.Named path_to_opaque)

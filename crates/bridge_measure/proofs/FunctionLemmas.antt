@@ -36,7 +36,7 @@ use Rattle.hir_number.specs.declared.signature.NumberedSignature.{NumberedSignat
 use Rattle.hir_signatures.specs.Stages.{Judged, stage_errors}
 use Rattle.hir_stages.specs.Given.{breached_stage, function_stage, named_stage, numbered_stage}
 use Rattle.hir_stages.specs.Numbering.{filled_function}
-use Rattle.bridge_measure.specs.inside.Made.{AreKnown}
+use Rattle.bridge_measure.specs.inside.Made.{AreAsMade}
 use Rattle.bridge_measure.proofs.EmptyLemmas.{both_empty, unless_empty}
 use Rattle.bridge_measure.proofs.FaultLemmas.{borrowed_param, borrowed_return, struct_param}
 use Rattle.bridge_measure.proofs.FilledLemmas.{borrowed_type, function_filled, lifetimes_of, numbered_with, param_types}
@@ -67,7 +67,7 @@ heading_fine backend k fits =
     both_empty (name_errors (function_name k) ++ name_errors (function_name k)) (lifetime_errors two_lifetimes)
     (both_empty (name_errors (function_name k)) (name_errors (function_name k)) (function_name_fine k fits) (function_name_fine k fits)) two_lifetimes_fine
 
-module _ (count : ℕ) (names : Naming) (catalog : Catalog) (known : AreKnown count names catalog) (support : BackendAttrSupport) (config : LoweringConfig)
+module _ (count : ℕ) (names : Naming) (catalog : Catalog) (known : AreAsMade count names catalog) (support : BackendAttrSupport) (config : LoweringConfig)
     (k : ℕ) (within : k < count) where
   -- ---- types
 

@@ -15,7 +15,7 @@ use Rattle.hir_items.specs.Placing.{at_item_itself}
 use Rattle.hir_items.specs.Setting.{Setting}
 use Rattle.hir_items.specs.Structs.{struct_errors, struct_reports}
 use Rattle.hir_items.specs.TypeMethods.{type_method_reports}
-use Rattle.bridge_measure.specs.inside.Made.{AreKnown}
+use Rattle.bridge_measure.specs.inside.Made.{AreAsMade}
 use Rattle.bridge_measure.proofs.EmptyLemmas.{both_empty, unless_empty}
 use Rattle.bridge_measure.proofs.FieldLemmas.{fields_fine}
 use Rattle.bridge_measure.proofs.FunctionLemmas.{function_fine}
@@ -41,7 +41,7 @@ opaque_unreported s path place set =
     (opaque_fine s.backend set)
     ∙ unless_empty (marks_in s.backend set).disable [] refl
 
-module _ (count : ℕ) (s : Setting) (known : AreKnown count s.names s.catalog) (fits : count < 2 ^ 64) (path : List (List ℕ)) (set : Attrs)
+module _ (count : ℕ) (s : Setting) (known : AreAsMade count s.names s.catalog) (fits : count < 2 ^ 64) (path : List (List ℕ)) (set : Attrs)
     (k : ℕ) (within : k < count)
   where
     -- ---- a struct

@@ -31,7 +31,8 @@ use Rattle.hir_reports.specs.declared.report.LoweringReport.{LoweringReport}
 use Rattle.hir_skeleton.specs.Leaves.{DeepLeaf, deep_leaves, from_fields, in_field, struct_leaves, type_leaves}
 use Rattle.hir_skeleton.specs.NamedLeaves.{NamedLeaf}
 use Rattle.hir_skeleton.specs.Skeletons.{Skeleton, Carrier, Struct}
-use Rattle.bridge_measure.specs.inside.Made.{AreKnown, IsMadeAt, function_place, made, struct_place}
+use Rattle.bridge_measure.specs.Measured.{measured}
+use Rattle.bridge_measure.specs.inside.Made.{AreAsMade, IsMadeAt, function_place, struct_place}
 use Rattle.bridge_measure.proofs.CallableLemmas.{callables_are, made_callable}
 use Rattle.bridge_measure.proofs.CountLemmas.{all_below, before_in_eight, below_eight, isnt_first}
 use Rattle.bridge_measure.proofs.SignatureLemmas.{made_signature, numbered_borrow}
@@ -84,11 +85,11 @@ two_are m n of_field first second here there =
     both_are m n (map (in_field 0) (of_field first)) (map (in_field 1) (of_field second) ++ []) (below_are m 0 (of_field first) here)
     (field_is n of_field second 1 there)
 
-module _ (count : ℕ) (backend : Backend) (config : LoweringConfig) (names : ℕ → Naming) (catalog : Catalog) (known : AreKnown count (names 0) catalog)
-    (struct_found : (k : ℕ) → k < count → found_at (made count) (struct_place k) ≡ Some (generated_module count, item.Struct (struct_numbered k)))
+module _ (count : ℕ) (backend : Backend) (config : LoweringConfig) (names : ℕ → Naming) (catalog : Catalog) (known : AreAsMade count (names 0) catalog)
+    (struct_found : (k : ℕ) → k < count → found_at (measured count) (struct_place k) ≡ Some (generated_module count, item.Struct (struct_numbered k)))
   where
     abbrev it : Interface
-    it = interface_of (made count) backend config names catalog
+    it = interface_of (measured count) backend config names catalog
 
     -- ---- structs
 
@@ -151,10 +152,10 @@ module _ (count : ℕ) (backend : Backend) (config : LoweringConfig) (names : �
         → All (λ (leaf : NamedLeaf). CarriesOne leaf.carried) (made_callable count backend config names catalog k).leaves
     callable_carries k within = All-map (λ (leaf : NamedLeaf). CarriesOne leaf.carried) _ (declared_leaves it (made_signature k)) (leaves_are k within).carry
 
-    module _ (found_is : (place : ItemPlace) (found : Module × Item) → found_at (made count) place ≡ Some found
+    module _ (found_is : (place : ItemPlace) (found : Module × Item) → found_at (measured count) place ≡ Some found
         → (found.0 ≡ generated_module count) × IsMadeAt count place found.1)
         (function_found : (k : ℕ) → k < count
-        → found_at (made count) (function_place count k) ≡ Some (generated_module count, item.Function (function_numbered k)))
+        → found_at (measured count) (function_place count k) ≡ Some (generated_module count, item.Function (function_numbered k)))
       where
         -- none has too many
         pub leaves_stand : (report : LoweringReport) → ¬ (LeavesBreak (declared_callables it) report)

@@ -31,7 +31,8 @@ use Rattle.hir_readings.specs.NamedLifetimes.{lent_generics, level_behind, retur
 use Rattle.hir_skeleton.specs.Leaves.{number_passes}
 use Rattle.hir_skeleton.specs.NamedLeaves.{NamedLeaf}
 use Rattle.hir_types.specs.Named.{ListsNumbers}
-use Rattle.bridge_measure.specs.inside.Made.{AreKnown, IsMadeAt, function_place, made, struct_place}
+use Rattle.bridge_measure.specs.Measured.{measured}
+use Rattle.bridge_measure.specs.inside.Made.{AreAsMade, IsMadeAt, function_place, struct_place}
 use Rattle.bridge_measure.proofs.CallableLemmas.{callables_are, made_callable}
 use Rattle.bridge_measure.proofs.CountLemmas.{below_eight, none_in, one_in}
 use Rattle.bridge_measure.proofs.FilledLemmas.{named_type, opaque_target}
@@ -86,11 +87,11 @@ few_in_all a (suc n) =
     let rest = few_in_all (a + 1) n in
     subst (λ s. s ≤ 9 * suc n) (sym more) (omega (arith, below_eight a, rest))
 
-module _ (count : ℕ) (backend : Backend) (config : LoweringConfig) (names : ℕ → Naming) (catalog : Catalog) (known : AreKnown count (names 0) catalog)
-    (struct_found : (k : ℕ) → k < count → found_at (made count) (struct_place k) ≡ Some (generated_module count, item.Struct (struct_numbered k)))
+module _ (count : ℕ) (backend : Backend) (config : LoweringConfig) (names : ℕ → Naming) (catalog : Catalog) (known : AreAsMade count (names 0) catalog)
+    (struct_found : (k : ℕ) → k < count → found_at (measured count) (struct_place k) ≡ Some (generated_module count, item.Struct (struct_numbered k)))
   where
     abbrev it : Interface
-    it = interface_of (made count) backend config names catalog
+    it = interface_of (measured count) backend config names catalog
 
     abbrev callable : ℕ → Callable
     callable = made_callable count backend config names catalog
@@ -134,10 +135,10 @@ module _ (count : ℕ) (backend : Backend) (config : LoweringConfig) (names : �
         ∙ ap (λ m. leaves_of a + m) (listed_in (a + 1) n (omega arith) counts each.1)
         ∙ sym (sum_by-cons leaves_of a (range_with_len (a + 1) n))
 
-    module _ (found_is : (place : ItemPlace) (found : Module × Item) → found_at (made count) place ≡ Some found
+    module _ (found_is : (place : ItemPlace) (found : Module × Item) → found_at (measured count) place ≡ Some found
         → (found.0 ≡ generated_module count) × IsMadeAt count place found.1)
         (function_found : (k : ℕ) → k < count
-        → found_at (made count) (function_place count k) ≡ Some (generated_module count, item.Function (function_numbered k)))
+        → found_at (measured count) (function_place count k) ≡ Some (generated_module count, item.Function (function_numbered k)))
       where
         pub listed_is : (listed : ℕ) → AreListed (declared_callables it) listed → listed ≡ sum_by leaves_of (range_with_len 0 count)
         listed_is listed are =

@@ -18,8 +18,8 @@ use Rattle.hir_lowering.specs.Lowered.{lowering_reports}
 use Rattle.hir_naming.specs.Meaning.{naming_of}
 use Rattle.hir_reports.specs.declared.report.LoweringReport.{LoweringReport}
 use Rattle.hir_rules.specs.Broken.{LoweringBreaks}
-use Rattle.bridge_measure.specs.Measured.{measured_backend, measured_by}
-use Rattle.bridge_measure.specs.inside.Made.{AreKnown, made}
+use Rattle.bridge_measure.specs.Measured.{measured, measured_backend, measured_by}
+use Rattle.bridge_measure.specs.inside.Made.{AreAsMade}
 use Rattle.bridge_measure.proofs.BrokenLemmas.{nothing_broken}
 use Rattle.bridge_measure.proofs.CallableLemmas.{callables_are, made_callable}
 use Rattle.bridge_measure.proofs.LeafLemmas.{leaves_stand}
@@ -33,24 +33,24 @@ pub has_functions : measured_backend.supports.free_functions ≡ true
 unfolding with_flag
 has_functions = refl
 
-module _ (count : ℕ) (backend : Backend) (config : LoweringConfig) (catalog : Catalog) (fits : count < 2 ^ 64) (is : IsCatalog (made count) catalog) where
-  known : AreKnown count (naming_of (made count) 0) catalog
+module _ (count : ℕ) (backend : Backend) (config : LoweringConfig) (catalog : Catalog) (fits : count < 2 ^ 64) (is : IsCatalog (measured count) catalog) where
+  known : AreAsMade count (naming_of (measured count) 0) catalog
   known = meets count fits catalog is
 
   -- as many as functions
   pub callables_counted : length (declared_callables (measured_by count backend config catalog)) ≡ count
   callables_counted =
-      ap length (callables_are count backend config (naming_of (made count)) catalog known (found_is count) (function_found count))
-      ∙ length-map-range_with_len (made_callable count backend config (naming_of (made count)) catalog) 0 count
+      ap length (callables_are count backend config (naming_of (measured count)) catalog known (found_is count) (function_found count))
+      ∙ length-map-range_with_len (made_callable count backend config (naming_of (measured count)) catalog) 0 count
 
   -- so many leaves of each
   pub all_listed : (listed : ℕ) → AreListed (declared_callables (measured_by count backend config catalog)) listed
       → listed ≡ sum_by (λ k. k % 8 + 2) (range_with_len 0 count)
-  all_listed = listed_is count backend config (naming_of (made count)) catalog known (struct_found count) (found_is count) (function_found count)
+  all_listed = listed_is count backend config (naming_of (measured count)) catalog known (struct_found count) (found_is count) (function_found count)
 
   -- nine at most
   pub nine_at_most : (listed : ℕ) → AreListed (declared_callables (measured_by count backend config catalog)) listed → listed ≤ 9 * count
-  nine_at_most = few_listed count backend config (naming_of (made count)) catalog known (struct_found count) (found_is count) (function_found count)
+  nine_at_most = few_listed count backend config (naming_of (measured count)) catalog known (struct_found count) (found_is count) (function_found count)
 
 -- whatever is broken is told of (a law of `hir_rules`)
 abbrev AreTold : Type 0
@@ -66,9 +66,9 @@ breaks_nothing every count backend config fits free report broken =
     elim broken.holds [
       | inl (inl lowering) ↦
           nothing_broken it (nothing_reported count fits it refl here free (found_is count)) (λ r b. every it r broken.is b) report lowering
-      | inl (inr nesting) ↦ nesting_stands count backend config (naming_of (made count)) catalog here (found_is count) report nesting.1
+      | inl (inr nesting) ↦ nesting_stands count backend config (naming_of (measured count)) catalog here (found_is count) report nesting.1
       | inr leaves ↦
-          leaves_stand count backend config (naming_of (made count)) catalog here (struct_found count) (found_is count) (function_found count) report leaves.1
+          leaves_stand count backend config (naming_of (measured count)) catalog here (struct_found count) (found_is count) (function_found count) report leaves.1
     ]
 
 -- what is refused breaks a rule

@@ -21,7 +21,8 @@ use Rattle.hir_nesting_rules.specs.Holding.{HoldsStruct, level_structs, struct_n
 use Rattle.hir_nesting_rules.specs.NestingBreaks.{NestingBreaks}
 use Rattle.hir_number.specs.Naming.{Naming}
 use Rattle.hir_reports.specs.declared.report.LoweringReport.{LoweringReport}
-use Rattle.bridge_measure.specs.inside.Made.{AreKnown, IsMadeAt, made, struct_place}
+use Rattle.bridge_measure.specs.Measured.{measured}
+use Rattle.bridge_measure.specs.inside.Made.{AreAsMade, IsMadeAt, struct_place}
 use Rattle.bridge_measure.proofs.CountLemmas.{before_in_eight, below_eight, in_rest, isnt_first, none_in, one_in}
 use Rattle.bridge_measure.proofs.TypeLemmas.{fold_borrowed, fold_named}
 
@@ -44,12 +45,12 @@ less_deep outer inner (k, later, outer_is, inner_is) =
     let at_outer : depth outer ≡ k % 8 = ap depth outer_is ∙ ap (λ n. n % 8) (omega arith) in
     omega (arith, at_inner, at_outer, before_in_eight k later)
 
-module _ (count : ℕ) (backend : Backend) (config : LoweringConfig) (names : ℕ → Naming) (catalog : Catalog) (known : AreKnown count (names 0) catalog)
-    (found_is : (place : ItemPlace) (found : Module × Item) → found_at (made count) place ≡ Some found
+module _ (count : ℕ) (backend : Backend) (config : LoweringConfig) (names : ℕ → Naming) (catalog : Catalog) (known : AreAsMade count (names 0) catalog)
+    (found_is : (place : ItemPlace) (found : Module × Item) → found_at (measured count) place ≡ Some found
     → (found.0 ≡ generated_module count) × IsMadeAt count place found.1)
   where
     abbrev it : Interface
-    it = interface_of (made count) backend config names catalog
+    it = interface_of (measured count) backend config names catalog
 
     -- by a field of the struct of a number
     field_holds : (k : ℕ) → k < count → (field : Field) (inner : ItemPlace) → Contains (fields_of k) field

@@ -10,7 +10,8 @@ use Rattle.bridge_order.specs.Order.{where_there}
 use Rattle.bridge_places.specs.Kinds.{item_kind, same_kind}
 use Rattle.bridge_places.specs.Places.{places_in, places_of}
 use Rattle.bridge_places.specs.declared.kinds.Kind.TheVariants as kind
-use Rattle.bridge_measure.specs.inside.Made.{function_place, made}
+use Rattle.bridge_measure.specs.Measured.{measured}
+use Rattle.bridge_measure.specs.inside.Made.{function_place}
 
 -- of items and then other ones
 in_both : (xs ys : List Item) (i : ℕ)
@@ -37,7 +38,7 @@ of_functions count a (suc n) =
     (ap (λ i. places_in kind.Function 0 i (map (λ number. item.Function (function_numbered number)) (range_with_len (a + 1) n))) (omega arith)
     ∙ of_functions count (a + 1) n)
 
-pub functions_stand : (count : ℕ) → places_of (made count) kind.Function ≡ map (function_place count) (range_with_len 0 count)
+pub functions_stand : (count : ℕ) → places_of (measured count) kind.Function ≡ map (function_place count) (range_with_len 0 count)
 unfolding structs_below functions_below
 functions_stand count =
     let structs = structs_below count in

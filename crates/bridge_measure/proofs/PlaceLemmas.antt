@@ -19,7 +19,8 @@ use Rattle.bridge_places.specs.Entries.{IsCatalog}
 use Rattle.hir_lowering.specs.Placing.{beside_module, found_at}
 use Rattle.hir_naming.proofs.NamingLemmas.{meaning_is_naming}
 use Rattle.hir_naming.specs.Meaning.{naming_of}
-use Rattle.bridge_measure.specs.inside.Made.{AreKnown, IsMadeAt, function_place, made, opaque_place, struct_place}
+use Rattle.bridge_measure.specs.Measured.{measured}
+use Rattle.bridge_measure.specs.inside.Made.{AreAsMade, IsMadeAt, function_place, opaque_place, struct_place}
 
 -- ---- the items by their numbers
 
@@ -87,7 +88,7 @@ item_is count (suc n) found is =
 -- ---- by their places
 
 module _ (count : ℕ) where
-  at_item : (n : ℕ) (found : Module × Item) → found_at (made count) (record { «module» = 0; item = n }) ≡ Some found
+  at_item : (n : ℕ) (found : Module × Item) → found_at (measured count) (record { «module» = 0; item = n }) ≡ Some found
       → (found.0 ≡ generated_module count) × (slice_get (generated_items count) n ≡ Some found.1)
   at_item n found is = elim_option (slice_get (generated_items count) n) is
     where
@@ -95,11 +96,11 @@ module _ (count : ℕ) where
       elim_option None e = absurd cc
       elim_option (Some i) e = (cc, cc)
 
-  pub found_is : (place : ItemPlace) (found : Module × Item) → found_at (made count) place ≡ Some found
+  pub found_is : (place : ItemPlace) (found : Module × Item) → found_at (measured count) place ≡ Some found
       → (found.0 ≡ generated_module count) × IsMadeAt count place found.1
   found_is place found is = by place.«module» place.item refl is
     where
-      by : (m n : ℕ) → place ≡ record { «module» = m; item = n } → found_at (made count) (record { «module» = m; item = n }) ≡ Some found
+      by : (m n : ℕ) → place ≡ record { «module» = m; item = n } → found_at (measured count) (record { «module» = m; item = n }) ≡ Some found
           → (found.0 ≡ generated_module count) × IsMadeAt count place found.1
       by (suc m) n at e = absurd cc
       by zero n at e =
@@ -118,17 +119,17 @@ module _ (count : ℕ) where
   function_stands : (k : ℕ) → k < count → slice_get (generated_items count) (count + k + 1) ≡ Some (item.Function (function_numbered k))
   function_stands k within = ap (slice_get (generated_items count)) (add-one (count + k)) ∙ function_here count k within
 
-  pub struct_found : (k : ℕ) → k < count → found_at (made count) (struct_place k) ≡ Some (generated_module count, item.Struct (struct_numbered k))
+  pub struct_found : (k : ℕ) → k < count → found_at (measured count) (struct_place k) ≡ Some (generated_module count, item.Struct (struct_numbered k))
   struct_found k within = ap (beside_module (generated_module count)) (struct_stands k within)
 
-  pub function_found : (k : ℕ) → k < count → found_at (made count) (function_place count k) ≡ Some (generated_module count, item.Function (function_numbered k))
+  pub function_found : (k : ℕ) → k < count → found_at (measured count) (function_place count k) ≡ Some (generated_module count, item.Function (function_numbered k))
   function_found k within = ap (beside_module (generated_module count)) (function_stands k within)
 
   -- ---- what paths mean, and what the catalog has
 
-  pub meets : count < 2 ^ 64 → (catalog : Catalog) → IsCatalog (made count) catalog → AreKnown count (naming_of (made count) 0) catalog
+  pub meets : count < 2 ^ 64 → (catalog : Catalog) → IsCatalog (measured count) catalog → AreAsMade count (naming_of (measured count) 0) catalog
   meets fits catalog is =
-      let naming = meaning_is_naming (made count) (generated_fits count fits) 0 (omega arith) in record {
+      let naming = meaning_is_naming (measured count) (generated_fits count fits) 0 (omega arith) in record {
         opaque_named = (naming.types path_to_opaque.segments (item.Opaque the_opaque) opaque_place).1 (names_opaque count);
         struct_named = λ k within.
             (naming.types (path_to_struct k).segments (item.Struct (struct_numbered k)) (struct_place k)).1 (names_struct count k within);

@@ -16,17 +16,18 @@ use Rattle.hir_lowering.specs.Lowered.{item_reports_in_order, lowering_reports}
 use Rattle.hir_lowering.specs.Placing.{each_report, found_at, reports_at, reports_of}
 use Rattle.hir_mentions.specs.Mentions.{where_any}
 use Rattle.hir_modules.specs.ModuleMarks.{all_module_reports, module_marks}
-use Rattle.bridge_measure.specs.inside.Made.{AreKnown, IsMadeAt, made}
+use Rattle.bridge_measure.specs.Measured.{measured}
+use Rattle.bridge_measure.specs.inside.Made.{AreAsMade, IsMadeAt}
 use Rattle.bridge_measure.proofs.EmptyLemmas.{both_empty, each_empty}
 use Rattle.bridge_measure.proofs.ItemLemmas.{function_unreported, opaque_unreported, struct_unreported}
 
 -- what is found at a place is one of the items that are made there, in the one module
 abbrev pub AreFound : ℕ → Type 0
-AreFound count = (place : ItemPlace) (found : Module × Item) → found_at (made count) place ≡ Some found
+AreFound count = (place : ItemPlace) (found : Module × Item) → found_at (measured count) place ≡ Some found
     → (found.0 ≡ generated_module count) × IsMadeAt count place found.1
 
 -- of the modules
-modules_unreported : (count : ℕ) (backend : Backend) → all_module_reports backend (made count) ≡ []
+modules_unreported : (count : ℕ) (backend : Backend) → all_module_reports backend (measured count) ≡ []
 modules_unreported count backend = refl
 
 -- ---- of an item
@@ -35,16 +36,16 @@ module _ (count : ℕ) (fits : count < 2 ^ 64) where
   -- nothing is told so of items that are made, where the functions are supported and the paths mean what they are meant to
   abbrev TellsNothing : ItemTelling → Type 0
   TellsNothing told =
-      (s : Setting) → AreKnown count s.names s.catalog → s.support.free_functions ≡ true
+      (s : Setting) → AreAsMade count s.names s.catalog → s.support.free_functions ≡ true
       → (path : List (List ℕ)) (place : ItemPlace) (set : Attrs) (i : Item)
       → IsMadeAt count place i → told s path place set i ≡ []
 
   -- by the items themselves
   by_items : (told : ItemTelling)
       → ((s : Setting) (path : List (List ℕ)) (place : ItemPlace) (set : Attrs) → told s path place set (item.Opaque the_opaque) ≡ [])
-      → ((s : Setting) → AreKnown count s.names s.catalog → (path : List (List ℕ)) (place : ItemPlace) (set : Attrs) (k : ℕ) → k < count
+      → ((s : Setting) → AreAsMade count s.names s.catalog → (path : List (List ℕ)) (place : ItemPlace) (set : Attrs) (k : ℕ) → k < count
       → told s path place set (item.Struct (struct_numbered k)) ≡ [])
-      → ((s : Setting) → AreKnown count s.names s.catalog → s.support.free_functions ≡ true
+      → ((s : Setting) → AreAsMade count s.names s.catalog → s.support.free_functions ≡ true
       → (path : List (List ℕ)) (place : ItemPlace) (set : Attrs) (k : ℕ) → k < count
       → told s path place set (item.Function (function_numbered k)) ≡ [])
       → TellsNothing told
@@ -77,7 +78,7 @@ module _ (count : ℕ) (fits : count < 2 ^ 64) where
 
   -- ---- of all
 
-  module _ (it : Interface) (made_so : it.modules ≡ made count) (known : AreKnown count (it.names 0) it.catalog)
+  module _ (it : Interface) (made_so : it.modules ≡ measured count) (known : AreAsMade count (it.names 0) it.catalog)
       (on : it.backend.supports.free_functions ≡ true) (found : AreFound count)
     where
       -- the module of each is that of number 0
@@ -89,10 +90,10 @@ module _ (count : ℕ) (fits : count < 2 ^ 64) where
       found_unreported : (told : ItemTelling) → TellsNothing told → (place : ItemPlace) (m : Module × Item) → IsMadeAt count place m.1
           → reports_of it told place m ≡ []
       found_unreported told nothing place m is =
-          nothing (setting_in it place.«module») (subst (λ n. AreKnown count (it.names n) it.catalog) (sym (in_root place m.1 is)) known) on
+          nothing (setting_in it place.«module») (subst (λ n. AreAsMade count (it.names n) it.catalog) (sym (in_root place m.1 is)) known) on
           m.0.path place (module_marks it.backend it.modules m.0) m.1 is
 
-      at_place : (told : ItemTelling) → TellsNothing told → (place : ItemPlace) (o : Option (Module × Item)) → found_at (made count) place ≡ o
+      at_place : (told : ItemTelling) → TellsNothing told → (place : ItemPlace) (o : Option (Module × Item)) → found_at (measured count) place ≡ o
           → where_any (reports_of it told place) o ≡ []
       at_place told nothing place None is = refl
       at_place told nothing place (Some m) is = found_unreported told nothing place m (found place m is).1
@@ -100,7 +101,7 @@ module _ (count : ℕ) (fits : count < 2 ^ 64) where
       place_unreported : (told : ItemTelling) → TellsNothing told → (place : ItemPlace) → reports_at it told place ≡ []
       place_unreported told nothing place =
           ap (λ modules. where_any (reports_of it told place) (found_at modules place)) made_so
-          ∙ at_place told nothing place (found_at (made count) place) refl
+          ∙ at_place told nothing place (found_at (measured count) place) refl
 
       kind_unreported : (told : ItemTelling) → TellsNothing told → (places : List ItemPlace) → each_report it told places ≡ []
       kind_unreported told nothing places = each_empty (reports_at it told) (place_unreported told nothing) places

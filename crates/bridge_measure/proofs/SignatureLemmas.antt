@@ -14,7 +14,7 @@ use Rattle.hir_number.specs.declared.signature.NumberedSignature.{NumberedSignat
 use Rattle.hir_readings.specs.Declared.{function_signature, numbered_as}
 use Rattle.hir_stages.specs.Numbering.{filled_fields, filled_function}
 use Rattle.bridge_order.specs.declared.catalog.Catalog.{Catalog}
-use Rattle.bridge_measure.specs.inside.Made.{AreKnown}
+use Rattle.bridge_measure.specs.inside.Made.{AreAsMade}
 use Rattle.bridge_measure.proofs.FilledLemmas.{borrowed_type, fields_filled, function_filled, numbered_with, param_types, struct_type, types_if}
 use Rattle.bridge_measure.proofs.UseLemmas.{fields_if, fields_numbered, function_is_numbered, function_uses_are, struct_if}
 
@@ -34,7 +34,7 @@ numbered_struct k = struct_type k (NonStatic 0 ∷ [])
 abbrev pub made_signature : ℕ → NumberedSignature
 made_signature k = numbered_with two_known (param_types k) (Some (numbered_borrow 0))
 
-module _ (count : ℕ) (names : Naming) (catalog : Catalog) (known : AreKnown count names catalog) (k : ℕ) (within : k < count) where
+module _ (count : ℕ) (names : Naming) (catalog : Catalog) (known : AreAsMade count names catalog) (k : ℕ) (within : k < count) where
   pub signature_is : function_signature names (function_numbered k) ≡ Some (made_signature k)
   signature_is =
       ap (numbered_as (filled_function names (function_numbered k))) (function_is_numbered count names catalog known k within)

@@ -19,7 +19,8 @@ use Rattle.hir_number.specs.declared.numbered.NumberedType.TheOpen.{NumberedType
 use Rattle.hir_readings.specs.Declared.{declared_fields, found_fields}
 use Rattle.hir_readings.specs.NumberedSkeletons.{lent_skeleton, level_lent, level_skeleton, numbered_skeleton, value_skeleton}
 use Rattle.hir_skeleton.specs.Skeletons.{Skeleton, Carrier, Struct}
-use Rattle.bridge_measure.specs.inside.Made.{AreKnown, made, struct_place}
+use Rattle.bridge_measure.specs.Measured.{measured}
+use Rattle.bridge_measure.specs.inside.Made.{AreAsMade, struct_place}
 use Rattle.bridge_measure.proofs.FilledLemmas.{named_type, opaque_target, struct_target, types_if}
 use Rattle.bridge_measure.proofs.SignatureLemmas.{numbered_borrow, numbered_struct, types_are}
 
@@ -28,10 +29,10 @@ abbrev pub skeletons_by : ℕ → Bool → List (Skeleton ItemPlace)
 skeletons_by k first = Carrier (NonStatic 0 ∷ []) ∷ (if first then [] else Struct (struct_place k) (NonStatic 0 ∷ []) ∷ [])
 
 module _ (count : ℕ) (backend : Backend) (config : LoweringConfig) (names : ℕ → Naming) (catalog : Catalog)
-    (known : AreKnown count (names 0) catalog)
+    (known : AreAsMade count (names 0) catalog)
   where
     abbrev it : Interface
-    it = interface_of (made count) backend config names catalog
+    it = interface_of (measured count) backend config names catalog
 
     pub skeleton_of_borrow : (l : ℕ) → numbered_skeleton catalog (numbered_borrow l) ≡ Carrier (NonStatic l ∷ [])
     skeleton_of_borrow l =
@@ -51,7 +52,7 @@ module _ (count : ℕ) (backend : Backend) (config : LoweringConfig) (names : �
         ∙ ap (λ s. Carrier (NonStatic 0 ∷ []) ∷ s ∷ []) (skeleton_of_struct (k - 1) (omega arith))
 
     -- of the struct of a number
-    pub fields_are : (k : ℕ) → k < count → found_at (made count) (struct_place k) ≡ Some (generated_module count, item.Struct (struct_numbered k))
+    pub fields_are : (k : ℕ) → k < count → found_at (measured count) (struct_place k) ≡ Some (generated_module count, item.Struct (struct_numbered k))
         → declared_fields it (struct_place k) ≡ skeletons_by (k - 1) (k % 8 == 0)
     fields_are k within found =
         ap (where_any (found_fields it (struct_place k))) found

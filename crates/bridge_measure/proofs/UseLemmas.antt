@@ -19,7 +19,7 @@ use Rattle.hir_number.specs.Numbers.{signature_numbers}
 use Rattle.hir_number.specs.Shapes.{NumberLists}
 use Rattle.hir_number.specs.Signatures.{Placed, Usual, field_uses, function_uses, is_written_level, output_uses, param_uses, placed, without_writer}
 use Rattle.hir_number.specs.Uses.{One, Path, Use, level_uses, type_use, type_uses}
-use Rattle.bridge_measure.specs.inside.Made.{AreKnown, opaque_place, struct_place}
+use Rattle.bridge_measure.specs.inside.Made.{AreAsMade, opaque_place, struct_place}
 use Rattle.bridge_measure.proofs.TypeLemmas.{fold_named, fold_reference, out_reference}
 
 -- ---- structs with and without the second field
@@ -86,7 +86,7 @@ no_writer k =
     ap (λ layer. plain_param (codes "p") (struct_by_value k) ∷ (if is_written_level layer then [] else last ∷ []))
     (out_reference (Named (codes "b")) Immutable (type.Named path_to_opaque))
 
-module _ (count : ℕ) (names : Naming) (catalog : Catalog) (known : AreKnown count names catalog) where
+module _ (count : ℕ) (names : Naming) (catalog : Catalog) (known : AreAsMade count names catalog) where
   opaque_used : type_use names false path_to_opaque ≡ opaque_use
   opaque_used = ap (λ found. Path false path_to_opaque (option_map (λ d. d.0) (type_found found))) known.opaque_named
 

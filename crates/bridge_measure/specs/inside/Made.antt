@@ -1,19 +1,14 @@
 -- The made declarations by their places: which item stands where, what the paths in them mean, and what the catalog says of what they name.
-use Rattle.std.specs.Prelude.{◌≡◌, ◌<◌, ◌+◌, ℕ, true, [], ◌∷◌, Some, List}
+use Rattle.std.specs.Prelude.{◌≡◌, ◌<◌, ◌+◌, ℕ, true, Some}
 use Rattle.bridge_ast.specs.declared.place.ItemPlace.{ItemPlace}
 use Rattle.bridge_decl.specs.declared.modules.Item.{Item}
 use Rattle.bridge_decl.specs.declared.modules.Item.TheVariants as item
-use Rattle.bridge_decl.specs.declared.modules.Module.{Module}
 use Rattle.bridge_decl.specs.declared.types.Mutability.TheVariants.{Immutable}
-use Rattle.bridge_generate.specs.Generated.{function_numbered, generated_module, path_to_opaque, path_to_struct, struct_numbered, the_opaque}
+use Rattle.bridge_generate.specs.Generated.{function_numbered, path_to_opaque, path_to_struct, struct_numbered, the_opaque}
 use Rattle.bridge_order.specs.Catalog.{entry_at}
 use Rattle.bridge_order.specs.declared.catalog.Catalog.{Catalog}
 use Rattle.bridge_order.specs.declared.catalog.Entry.TheVariants as entry
 use Rattle.hir_number.specs.Naming.{Naming}
-
--- the modules: the root alone
-abbrev pub made : ℕ → List Module
-made count = generated_module count ∷ []
 
 -- the opaque is the first item of the root
 abbrev pub opaque_place : ItemPlace
@@ -35,7 +30,7 @@ pub data IsMadeAt (count : ℕ) (place : ItemPlace) (found : Item) : Type 0 wher
       (k : ℕ) → k < count → place ≡ function_place count k → found ≡ item.Function (function_numbered k) → IsMadeAt count place found
 
 -- the paths mean what they are meant to, and the catalog has an opaque and structs with fields there
-pub record AreKnown (count : ℕ) (names : Naming) (catalog : Catalog) : Type 0 where
+pub record AreAsMade (count : ℕ) (names : Naming) (catalog : Catalog) : Type 0 where
   pub opaque_named : names.type_at path_to_opaque.segments ≡ Some (item.Opaque the_opaque, opaque_place)
   pub struct_named : (k : ℕ) → k < count
       → names.type_at (path_to_struct k).segments ≡ Some (item.Struct (struct_numbered k), struct_place k)
