@@ -18,8 +18,8 @@ use Rattle.bridge_read.specs.declared.keys.Key.{Key}
 use Rattle.bridge_read.specs.declared.fields.Member.{Member}
 use Rattle.bridge_read.specs.declared.fault.Fault.{Fault}
 use Rattle.bridge_read.specs.Keys.{key_text}
-use Rattle.bridge_read.specs.inside.Left.{Slots, all_seen, are_apart, held_at, held_from, live_from, key_number, numbered, or_unknown, place_of, slot, without}
-use Rattle.bridge_read.specs.Form.{add_live, live, members_in, sole}
+use Rattle.bridge_read.specs.inside.Left.{Slots, all_seen, are_apart, held_at, held_from, key_number, numbered, or_unknown, place_of, slot, without}
+use Rattle.bridge_read.specs.Form.{members_in}
 use Rattle.bridge_read.specs.Reading.{◌>>=◌, is_one_of, known, not_null, only, under, unless_known}
 use Rattle.bridge_read.specs.inside.Given.{Stops}
 use Rattle.bridge_read.specs.declared.fault.ReadFault.{ReadFault}
@@ -154,10 +154,6 @@ held_beyond : (m n : ℕ) (keys : List Key) (slots : Slots) → n < m → held_f
 held_beyond m n [] slots lt = refl
 held_beyond m n (k ∷ keys) slots lt = rw (held_other m n slots (below_apart m n lt), held_beyond (suc m) n keys slots (omega (arith, lt))) refl
 
-live_beyond : (m n : ℕ) (keys : List Key) (slots : Slots) → n < m → live_from m keys (without n slots) ≡ live_from m keys slots
-live_beyond m n [] slots lt = refl
-live_beyond m n (k ∷ keys) slots lt = rw (held_other m n slots (below_apart m n lt), live_beyond (suc m) n keys slots (omega (arith, lt))) refl
-
 at_drop : (all : List Key) (n : ℕ) (other key : Key) (keys : List Key) → drop n all ≡ key ∷ keys → get_or all n other ≡ key
 at_drop [] zero other key keys e = absurd cc
 at_drop [] (suc n) other key keys e = absurd cc
@@ -193,22 +189,6 @@ module _ (all : List Key) (n : ℕ) (key other : Key) (keys : List Key) (d : Dat
   pub next_left : (drop (n + 1) all ≡ keys) × (held_from (n + 1) keys (without n slots) ≡ map (λ k. under k d) keys)
   next_left = rw add-one (after_drop all n key keys left, held_beyond (suc n) n keys slots (omega arith) ∙ tail_is _ _ _ _ held)
 
--- ---- the keys under which something stands
-
-pub live_left : (n : ℕ) (keys : List Key) (d : Data) (slots : Slots) → held_from n keys slots ≡ map (λ k. under k d) keys → live keys d ≡ live_from n keys slots
-live_left n [] d slots held = refl
-live_left n (k ∷ keys) d slots held = rw (head_is _ _ _ _ held, live_left (suc n) keys d slots (tail_is _ _ _ _ held)) refl
-
-drop_at : (all : List Key) (n : ℕ) (other : Key) → n < length all → drop n all ≡ get_or all n other ∷ drop (suc n) all
-drop_at [] n other lt = absurd (omega (arith, lt))
-drop_at (k ∷ all) zero other lt = refl
-drop_at (k ∷ all) (suc n) other lt = drop_at all n other (omega (arith, lt))
-
--- one key more
-pub live_next : (all : List Key) (n : ℕ) (other : Key) (slots : Slots) → n < length all
-    → live_from n (drop n all) slots ≡ add_live (get_or all n other) (held_at n slots) (live_from (n + 1) (drop (n + 1) all) (without n slots))
-live_next all n other slots lt = rw (add-one, drop_at all n other lt, live_beyond (suc n) n (drop (suc n) all) slots (omega arith)) refl
-
 -- ---- all members
 
 -- the number of a key's text, as that of the key
@@ -221,15 +201,15 @@ abbrev AreNumbered : List Key → ℕ → List Key → Type 0
 AreNumbered all n [] = Unit {0}
 AreNumbered all n (k ∷ keys) = ((text : List ℕ) → is_number n (key_number all text) ≡ bytes_eq (key_text k) text) × AreNumbered all (suc n) keys
 
-both : (b c : Bool) → b && c ≡ true → (b ≡ true) × (c ≡ true)
+pub both : (b c : Bool) → b && c ≡ true → (b ≡ true) × (c ≡ true)
 both true c e = (refl, e)
 both false c e = absurd cc
 
-neither : (b c : Bool) → b || c ≡ false → (b ≡ false) × (c ≡ false)
+pub neither : (b c : Bool) → b || c ≡ false → (b ≡ false) × (c ≡ false)
 neither true c e = absurd cc
 neither false c e = (refl, e)
 
-none_of : (b : Bool) → not b ≡ true → b ≡ false
+pub none_of : (b : Bool) → not b ≡ true → b ≡ false
 none_of true e = absurd cc
 none_of false e = refl
 
@@ -316,7 +296,7 @@ as_known keys (member text d ms) = known_case (λ n slots. slot n (not_null d) +
 -- ---- each name once
 
 -- no name stands twice
-abbrev AreDistinct : Members → Type 0
+abbrev pub AreDistinct : Members → Type 0
 AreDistinct no_members = Unit {0}
 AreDistinct (member text d ms) = (get_member text ms ≡ None) × AreDistinct ms
 
@@ -329,7 +309,7 @@ none_above : (text : String Global) (es : List (String Global × Value)) → All
 none_above text [] above = refl
 none_above text (e ∷ es) above = less_not_equal (slice_cmp nat_cmp (string_bytes text) (string_bytes e.0)) (get_member (string_bytes text) (members_view es)) (Some (view e.1)) above.0 (none_above text es above.1)
 
-distinct : (es : List (String Global × Value)) → IsStrictlySortedBy string_cmp (keys_of es) → AreDistinct (members_view es)
+pub distinct : (es : List (String Global × Value)) → IsStrictlySortedBy string_cmp (keys_of es) → AreDistinct (members_view es)
 unfolding IsStrictlySortedBy
 distinct [] sorted = tt
 distinct (e ∷ es) sorted = (none_above e.0 es sorted.0, distinct es sorted.1)
@@ -393,7 +373,7 @@ all_under all n (k ∷ keys) ms slots are once e = rw (under_members all k n ms 
 
 -- ---- the whole object
 
-is_object : (d : Data) (ms : Members) → members_in d ≡ Ok ms → d ≡ object ms
+pub is_object : (d : Data) (ms : Members) → members_in d ≡ Ok ms → d ≡ object ms
 unfolding members_in
 is_object Data.null ms e = absurd cc
 is_object (Data.boolean b) ms e = absurd cc
@@ -437,21 +417,3 @@ no_object keys (Data.number n) (Bad fault) e = cc
 no_object keys (Data.string s) (Bad fault) e = cc
 no_object keys (Data.array ds) (Bad fault) e = cc
 no_object keys (object ms) (Bad fault) e = absurd cc
-
--- one key more, of which something may stand in the object
-joined : (x : Option Data) (k : Key) (found rest : List (Key × Data)) → (found ++ add_live k x []) ++ rest ≡ found ++ add_live k x rest
-joined None k found rest = rw (append-nil found) refl
-joined (Some d) k found rest = append_assoc found ((k, d) ∷ []) rest
-
-module _ (all : List Key) (n : ℕ) (other : Key) (slots after : Slots) (x : Option Data) (found : List (Key × Data)) (below : n < length all)
-    (taken : x ≡ held_at n slots) (left : after ≡ without n slots) where
-  split : found ++ live_from n (drop n all) slots ≡ (found ++ add_live (get_or all n other) x []) ++ live_from (n + 1) (drop (n + 1) all) after
-  split = ap (λ rest. found ++ rest) (live_next all n other slots below) ∙ rw (taken, left) (sym (joined (held_at n slots) (get_or all n other) found _))
-
-  pub live_more : (more : List (Key × Data)) → more ≡ found ++ add_live (get_or all n other) x []
-      → more ++ live_from (n + 1) (drop (n + 1) all) after ≡ found ++ live_from n (drop n all) slots
-  live_more more e = rw e (sym split)
-
-  pub live_stop : (fault : ReadFault) → ((rest : List (Key × Data)) → Stops fault (sole ((found ++ add_live (get_or all n other) x []) ++ rest)))
-      → Stops fault (sole (found ++ live_from n (drop n all) slots))
-  live_stop fault stops = rw split (stops (live_from (n + 1) (drop (n + 1) all) after))

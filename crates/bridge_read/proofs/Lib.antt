@@ -1,5 +1,6 @@
 pub mod CharLemmas
 pub mod ChoiceLaws
+pub mod ChoiceLemmas
 pub mod CountLemmas
 pub mod CutLaws
 pub mod DictionaryLaws

@@ -1,5 +1,5 @@
 -- Which bytes spell which input, and why bytes spell none.
-use Rattle.std.specs.Prelude.{IsUtf8, ◌≡◌, ℕ, List, [], ◌++◌, ◌∷◌, ◌⊎◌, slice_get, Some, Result, Ok, Err}
+use Rattle.std.specs.Prelude.{IsUtf8, ◌≡◌, ℕ, List, [], ◌∷◌, ◌⊎◌, slice_get, Some, Result, Ok, Err}
 use Rattle.std.specs.List.{flat_map}
 use Rattle.serde_json.specs.Data.{Data}
 use Rattle.serde_json.specs.Read.{read}

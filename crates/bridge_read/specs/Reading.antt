@@ -1,5 +1,5 @@
 -- Reading a JSON value: what it is read as, or its first fault.
-use Rattle.std.specs.Prelude.{◌≡◌, ℕ, ◌+◌, List, [], ◌∷◌, Bool, true, false, ◌||◌, ◌&&◌, Option, Some, None, option_and_then, Result, Ok, Err, ℤ, nat_lt, if◌then◌else◌}
+use Rattle.std.specs.Prelude.{ℕ, ◌+◌, List, [], ◌∷◌, Bool, true, false, ◌||◌, ◌&&◌, Option, Some, None, option_and_then, Result, Ok, Err, ℤ, nat_lt, if◌then◌else◌}
 use Rattle.std.specs.Str.{bytes_eq}
 use Rattle.serde_json.specs.Data.{Data, null, boolean, number, string, array, object, Items, no_items, item, Members, no_members, member}
 use Rattle.serde_json.specs.Find.{get, as_number, as_u64, as_i64, as_bool}
@@ -7,8 +7,6 @@ use Rattle.bridge_read.specs.declared.keys.Key.{Key}
 use Rattle.bridge_read.specs.declared.fault.InputKind.{InputKind}
 use Rattle.bridge_read.specs.declared.fault.InputKind.TheVariants as kind
 use Rattle.bridge_read.specs.declared.fault.Fault.{Fault}
-use Rattle.bridge_read.specs.declared.fault.ReadFault.{ReadFault}
-use Rattle.bridge_read.specs.declared.fault.ReadFault.TheVariants.{Bad, NoMemory}
 use Rattle.bridge_read.specs.declared.pointer.Step.{Step}
 use Rattle.bridge_read.specs.declared.pointer.Step.TheVariants as step
 use Rattle.bridge_read.specs.Keys.{key_text}

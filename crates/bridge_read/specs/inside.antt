@@ -1,4 +1,5 @@
 pub mod Answers
+pub mod Choices
 pub mod Given
 pub mod Left
 pub mod Names

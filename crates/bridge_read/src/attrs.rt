@@ -7,6 +7,7 @@ ghost use Rattle.bridge_read.specs.Reading.{list_of};
 ghost use Rattle.bridge_read.specs.inside.Given.{Gives};
 ghost use Rattle.bridge_read.specs.forms.Attrs.{condition_called, condition_keys, condition_under, condition_within, condition_word, argument_of, digits, literal_called, literal_keys, literal_under, literal_word, no_attrs, sole_char};
 
+use crate::choice::Choice;
 use crate::fault::ReadFault;
 use crate::fields::Fields;
 use crate::keys::Key;
@@ -101,7 +102,7 @@ fn condition_within(
     if let Some(_) = value.as_str() {
         return condition_word(alloc, &value);
     }
-    let (key, found) = Fields::of(alloc, value, condition_keys())?.sole(alloc)?;
+    let (key, found) = Choice::of(alloc, value, condition_keys())?.sole(alloc)?;
     in_member(alloc, key, condition_under(alloc, key, found, inner))
 }
 
@@ -217,7 +218,7 @@ impl FromForm for Lit {
         if let Some(_) = value.as_str() {
             return literal_word(alloc, &value);
         }
-        let (key, found) = Fields::of(alloc, value, literal_keys())?.sole(alloc)?;
+        let (key, found) = Choice::of(alloc, value, literal_keys())?.sole(alloc)?;
         in_member(alloc, key, literal_under(alloc, key, found))
     }
 }

@@ -1,15 +1,14 @@
 //! Objects: each member gets the number of its key in the form, and the members are then taken in the order of the form.
 
-ghost use Rattle.std.specs.Prelude.{◌≡◌, ℕ, ◌<◌, [], ◌∷◌, ◌++◌, false, true, drop, length, List, Some, OnOk, option_map, string_cmp};
+ghost use Rattle.std.specs.Prelude.{◌≡◌, ℕ, ◌<◌, [], ◌∷◌, ◌++◌, false, true, length, List, Some, OnOk, option_map, string_cmp};
 ghost use Rattle.std.specs.BTreeMap.{keys};
 ghost use Rattle.std.specs.List.Sorted.{IsStrictlySortedBy};
 ghost use Rattle.serde_json.specs.Data.{Data};
 ghost use Rattle.serde_json.specs.View.{view, members_view};
 ghost use Rattle.bridge_read.specs.declared.keys.Key.{Key as Name};
-ghost use Rattle.bridge_read.specs.Form.{live, sole};
-ghost use Rattle.bridge_read.specs.Reading.{flag_of, held_of, list_of, needed_of, not_null, optional_of, under};
-ghost use Rattle.bridge_read.specs.inside.Given.{Gives, GivesBy, held, needed, optional, some_of};
-ghost use Rattle.bridge_read.specs.inside.Left.{Finds, IsLeft, Opens, Takes, all_seen, are_apart, found_list, held_at, live_from, key_number, numbered, place_of, seen, slot, without};
+ghost use Rattle.bridge_read.specs.Reading.{flag_of, list_of, not_null, under};
+ghost use Rattle.bridge_read.specs.inside.Given.{GivesBy, held, needed, optional, some_of};
+ghost use Rattle.bridge_read.specs.inside.Left.{IsLeft, Opens, Takes, all_seen, are_apart, held_at, key_number, numbered, place_of, seen, slot, without};
 
 use crate::fault::{Fault, ReadFault};
 use crate::keys::Key;
@@ -26,44 +25,6 @@ pub struct Field {
     pub key: Key,
     /// What stands under it; null stands for nothing.
     pub value: Option<Value>,
-}
-
-impl Field {
-    /// What stands under the key, which is required.
-    #[inline(always)]
-    fn needed<T: FromForm>(self, alloc: Global) -> Result<T, ReadFault>
-        ensures { Gives result (needed_of T.form self.key (option_map view self.value)) }
-    {
-        let Field { key, value } = self;
-        match value {
-            Some(value) => in_member(alloc, key, T::from_form(alloc, value)),
-            None => Err(ReadFault::missing_key(alloc)),
-        }
-    }
-
-    /// What stands under the key, if anything does.
-    #[inline(always)]
-    fn optional<T: FromForm>(self, alloc: Global) -> Result<Option<T>, ReadFault>
-        ensures { Gives result (optional_of T.form self.key (option_map view self.value)) }
-    {
-        let Field { key, value } = self;
-        match value {
-            Some(value) => Ok(Some(in_member(alloc, key, T::from_form(alloc, value))?)),
-            None => Ok(None),
-        }
-    }
-
-    /// What stands under the key, or what its absence stands for.
-    #[inline(always)]
-    fn held<T: FromForm>(self, alloc: Global, absent: T) -> Result<T, ReadFault>
-        ensures { Gives result (held_of absent T.form self.key (option_map view self.value)) }
-    {
-        let Field { key, value } = self;
-        match value {
-            Some(value) => in_member(alloc, key, T::from_form(alloc, value)),
-            None => Ok(absent),
-        }
-    }
 }
 
 /// A member of an object, which isn't null.
@@ -125,7 +86,11 @@ impl<'k> Fields<'k> {
         ensures { (key : Name) (keys : List Name) (d : Data) → IsLeft self.old (key ∷ keys) d
             → Takes result (needed T.form key d) self.new keys d }
     {
-        self.next().needed(alloc)
+        let Field { key, value } = self.next();
+        match value {
+            Some(value) => in_member(alloc, key, T::from_form(alloc, value)),
+            None => Err(ReadFault::missing_key(alloc)),
+        }
     }
 
     /// What stands under the next key, if anything does.
@@ -133,7 +98,11 @@ impl<'k> Fields<'k> {
         ensures { (key : Name) (keys : List Name) (d : Data) → IsLeft self.old (key ∷ keys) d
             → Takes result (optional T.form key d) self.new keys d }
     {
-        self.next().optional(alloc)
+        let Field { key, value } = self.next();
+        match value {
+            Some(value) => Ok(Some(in_member(alloc, key, T::from_form(alloc, value))?)),
+            None => Ok(None),
+        }
     }
 
     /// What stands under the next key, or what its absence stands for.
@@ -141,7 +110,11 @@ impl<'k> Fields<'k> {
         ensures { (key : Name) (keys : List Name) (d : Data) → IsLeft self.old (key ∷ keys) d
             → Takes result (held absent T.form key d) self.new keys d }
     {
-        self.next().held(alloc, absent)
+        let Field { key, value } = self.next();
+        match value {
+            Some(value) => in_member(alloc, key, T::from_form(alloc, value)),
+            None => Ok(absent),
+        }
     }
 
     /// The list under the next key; the empty one where nothing stands there.
@@ -170,55 +143,6 @@ impl<'k> Fields<'k> {
             → Takes result (held false flag_of key d) self.new keys d }
     {
         self.held(alloc, false)
-    }
-
-    /// The one key under which something stands, with what stands there; the wrong form where there are none or more.
-    #[tactic(auto, using(crate::proofs::FieldLemmas::live_left), unfolding(crate::specs::inside::Left::IsLeft))]
-    pub fn sole(self, alloc: Global) -> Result<(Key, Value), ReadFault>
-        ensures { (keys : List Name) (d : Data) → IsLeft self.entry keys d
-            → GivesBy (λ one. (one.0, view one.1)) result (sole (live keys d)) }
-    {
-        sole_from(alloc, self.keys, self.read, self.members)
-    }
-}
-
-/// What was found under this key; the wrong form where something was found under an earlier one.
-fn found_with(
-    alloc: Global,
-    found: Option<(Key, Value)>,
-    key: Key,
-    value: Value,
-) -> Result<Option<(Key, Value)>, ReadFault>
-    ensures { Finds result (found_list found ++ (key, view value) ∷ []) }
-{
-    match found {
-        None => Ok(Some((key, value))),
-        Some(_) => Err(ReadFault::wrong_form(alloc)),
-    }
-}
-
-/// The one key from that number on under which something stands, with what stands there.
-fn sole_from(
-    alloc: Global,
-    form: &[Key],
-    read: usize,
-    mut members: Vec<Member>,
-) -> Result<(Key, Value), ReadFault>
-    ensures { GivesBy (λ one. (one.0, view one.1)) result
-        (sole (live_from read (drop read form.now) (all_seen members.items))) }
-{
-    let mut found = None;
-    for number in read..form.len() {
-        if let Some(value) = take(&mut members, number) {
-            match found_with(alloc, found, form[number], value) {
-                Ok(more) => found = more,
-                Err(fault) => return Err(fault),
-            }
-        }
-    }
-    match found {
-        Some(one) => Ok(one),
-        None => Err(ReadFault::wrong_form(alloc)),
     }
 }
 
@@ -295,9 +219,10 @@ fn number_all(
     ensures ordered { IsStrictlySortedBy string_cmp (keys members) }
 {
     let mut found = Vec::with_capacity(alloc, members.len())?;
-    while let Some((name, value)) = members.pop_first() {
+    // To take each value out of the map and let the map go at the end costs half of what taking its members out would.
+    for (name, value) in members.iter_mut() {
         match key_number(form, name.as_str()) {
-            Some(number) => add(&mut found, number, value)?,
+            Some(number) => add(&mut found, number, value.take())?,
             None => return Err(ReadFault::Bad(Fault::unknown_key(alloc, name.as_str())?)),
         }
     }

@@ -16,11 +16,12 @@
 //! these are read in the order in which docs/INPUT.md lists them. Where the whole value has the form, the modules are tested as an
 //! environment, and a second item `Locale` of `ffi` is a `duplicate item` at `/root/modules/0/items/1`.
 //!
-//! `reading` has the trait by which parts are read, `fields`, `objects` and `words` what all objects and all words share; `lifetimes`,
+//! `reading` has the trait by which parts are read, `fields`, `choice`, `objects` and `words` what objects and words share; `lifetimes`,
 //! `types`, `attrs`, `docs`, `methods`, `items`, `modules` and `settings` read a subject each, `places` finds the pointer of a declaration.
 #![tactic(auto)]
 
 mod attrs;
+mod choice;
 mod docs;
 mod fault;
 mod fields;

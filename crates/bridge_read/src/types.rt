@@ -10,6 +10,7 @@ ghost use Rattle.bridge_read.specs.inside.Given.{Gives, held, needed};
 ghost use Rattle.bridge_read.specs.inside.Left.{IsLeft, Takes};
 ghost use Rattle.bridge_read.specs.forms.Types.{borrow_of, spelling, type_called, type_word, type_keys, type_under, type_within, written_primitive, writer_called, reference_type, result_type, custom_slice, callback, str_slice, str_list, primitive_slice, written_borrow};
 
+use crate::choice::Choice;
 use crate::fault::{Fault, InputKind, ReadFault};
 use crate::fields::{Field, Fields};
 use crate::keys::Key;
@@ -333,7 +334,7 @@ fn type_within(alloc: Global, value: Value, levels: usize) -> Result<TypeName, R
     if let Some(_) = value.as_str() {
         return type_word(alloc, &value);
     }
-    let (key, found) = Fields::of(alloc, value, type_keys())?.sole(alloc)?;
+    let (key, found) = Choice::of(alloc, value, type_keys())?.sole(alloc)?;
     in_member(alloc, key, type_under(alloc, key, found, inner))
 }
 

@@ -1,5 +1,5 @@
 -- Types: a word, or an object with one key.
-use Rattle.std.specs.Prelude.{ℕ, zero, suc, List, [], ◌∷◌, codes, Bool, true, false, Option, Some, None, option_map, option_and_then, Result, if◌then◌else◌}
+use Rattle.std.specs.Prelude.{ℕ, zero, suc, List, [], ◌∷◌, codes, Bool, true, false, Option, Some, None, option_map, option_and_then, if◌then◌else◌}
 use Rattle.std.specs.Str.{bytes_eq}
 use Rattle.bridge_decl.specs.declared.lifetimes.Lifetime.{Lifetime}
 use Rattle.bridge_decl.specs.declared.types.Mutability.{Mutability}
@@ -12,11 +12,9 @@ use Rattle.bridge_decl.specs.declared.types.WriteType.{WriteType}
 use Rattle.bridge_decl.specs.declared.types.WriteType.TheVariants as write
 use Rattle.bridge_decl.specs.declared.types.TypeName.{TypeName}
 use Rattle.bridge_decl.specs.declared.types.TypeName.TheVariants as type
-use Rattle.serde_json.specs.Data.{Data}
-use Rattle.bridge_read.specs.declared.fault.Fault.{Fault}
 use Rattle.bridge_read.specs.declared.keys.Key.{Key}
 use Rattle.bridge_read.specs.declared.keys.Key.TheVariants as key
-use Rattle.bridge_read.specs.Form.{Form, Parts, object_with, made, ◌&◌, needs, may_be, may_have, refined_at, refined_at_of, refined, mapped, word_or, one_of, never, list, text, flag, find_word, one_word}
+use Rattle.bridge_read.specs.Form.{Form, Parts, object_with, made, ◌&◌, needs, may_be, may_have, refined_at, refined, mapped, word_or, one_of, never, list, text, flag, find_word, one_word}
 use Rattle.bridge_read.specs.Words.{primitive_words, encoding_words}
 use Rattle.bridge_read.specs.forms.Lifetimes.{lifetime, path, mutability}
 

@@ -3,17 +3,14 @@ use Rattle.std.specs.Prelude.{◌≡◌, ℕ, suc, List, [], ◌∷◌, ◌++◌
 use Rattle.std.specs.Str.{bytes_eq}
 use Rattle.serde_json.specs.Data.{Data, Members, no_members, member}
 use Rattle.serde_json.specs.View.{view}
-use Rattle.serde_json.specs.declared.value.Value.{Value}
 use Rattle.bridge_read.specs.declared.fault.Fault.{Fault}
 use Rattle.bridge_read.specs.declared.fault.InputKind.TheVariants as kind
 use Rattle.bridge_read.specs.declared.fault.ReadFault.{ReadFault}
-use Rattle.bridge_read.specs.declared.fault.ReadFault.TheVariants.{Bad, NoMemory}
 use Rattle.bridge_read.specs.declared.fields.Field.{Field}
 use Rattle.bridge_read.specs.declared.fields.Fields.{Fields}
 use Rattle.bridge_read.specs.declared.fields.Member.{Member}
 use Rattle.bridge_read.specs.declared.keys.Key.{Key}
 use Rattle.bridge_read.specs.declared.pointer.Step.TheVariants as step
-use Rattle.bridge_read.specs.Form.{add_live, sole}
 use Rattle.bridge_read.specs.Keys.{key_text}
 use Rattle.bridge_read.specs.Reading.{here, within, is_one_of, not_null, under, only}
 use Rattle.bridge_read.specs.inside.Given.{Stops}
@@ -42,21 +39,6 @@ held_at n (s ∷ slots) = if nat_eq s.0 n then s.1 else held_at n slots
 abbrev pub held_from : ℕ → List Key → Slots → List (Option Data)
 held_from n [] slots = []
 held_from n (k ∷ keys) slots = held_at n slots ∷ held_from (suc n) keys slots
-
--- those of the keys under which something stands
-abbrev pub live_from : ℕ → List Key → Slots → List (Key × Data)
-live_from n [] slots = []
-live_from n (k ∷ keys) slots = add_live k (held_at n slots) (live_from (suc n) keys slots)
-
--- what was found so far
-abbrev pub found_list : Option (Key × Value) → List (Key × Data)
-found_list None = []
-found_list (Some one) = (one.0, view one.1) ∷ []
-
--- what was found is all of these; it is refused where these are more than one may be
-abbrev pub Finds : Result (Option (Key × Value)) ReadFault → List (Key × Data) → Type 0
-Finds (Ok found) ones = found_list found ≡ ones
-Finds (Err fault) ones = (rest : List (Key × Data)) → Stops fault (sole (ones ++ rest))
 
 -- these keys are left, and what stands under each in the object
 unfoldable pub IsLeft : Fields → List Key → Data → Type 0

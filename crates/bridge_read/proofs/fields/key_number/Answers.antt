@@ -1,4 +1,4 @@
-use Rattle.std.proofs.Common.{refl, sym}
+use Rattle.std.proofs.Common.{sym}
 use Rattle.bridge_read.proofs.FieldLemmas.{found_key_here, no_key_yet}
 use Rattle.bridge_read.proofs.fields.key_number.Goals as goal
 

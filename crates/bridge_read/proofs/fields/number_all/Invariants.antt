@@ -1,10 +1,11 @@
-use Rattle.std.proofs.Common.{◌≡◌, length}
+use Rattle.std.proofs.Common.{◌≡◌, []}
+use Rattle.std.specs.BTreeMap.IterMut.{iter_mut_rest}
 use Rattle.serde_json.specs.View.{members_view}
 use Rattle.bridge_read.specs.inside.Left.{all_seen, numbered}
 use Rattle.bridge_read.proofs.fields.number_all.Given as goal
 
 abbrev pub invariant-loop-name : goal.invariant-loop-name
-invariant-loop-name l = numbered l.form (all_seen l.found.items) (members_view l.members.entries) ≡ numbered l.form (all_seen l.initial.found.items) (members_view l.initial.members.entries)
-
-abbrev pub decreases-loop-name : goal.decreases-loop-name
-decreases-loop-name l = length l.members.entries
+invariant-loop-name l =
+    (goal.iterator-loop-name).can_next l.name-iterator
+    × (goal.iterator-loop-name).is_finite l.name-iterator
+    × (numbered l.form (all_seen l.found.items) (members_view (iter_mut_rest l.name-iterator)) ≡ numbered l.form [] (members_view l.fn.members.entries))

@@ -1,4 +1,4 @@
-use Rattle.std.proofs.Common.{◌≡◌, refl}
+use Rattle.std.proofs.Common.{refl}
 use Rattle.serde_json.specs.View.{view}
 use Rattle.bridge_read.specs.inside.Left.{IsLeft, all_seen}
 use Rattle.bridge_read.proofs.FieldLemmas.{opened}
