@@ -23,8 +23,8 @@ pub fn generated_declarations_break_no_rule()
     what_is_told_is_broken();
 }
 
-/// Their callables are as many as the functions. Under the one lifetime that its return names, the function of the number `k` lists `k % 8 + 2`
-/// leaves: the `x` of its struct and of each struct within, and its `q`.
+/// Their callables are as many as the functions, and all lists together have as many leaves as the sum of `k % 8 + 2` over the numbers `k` of the
+/// functions: for each function the `x` of its struct and of each struct within, and its `q`.
 pub fn generated_functions_are_the_callables()
     ensures counted { (count : ℕ) (backend : Backend) (config : LoweringConfig)
         (catalog : Catalog) → count < 2 ^ 64 → IsCatalog (generated_module count ∷ []) catalog

@@ -6,7 +6,7 @@ ghost use Rattle.bridge_tool.specs.Statuses.{code_of};
 /// How a run ends. Each way has a number, which is the status of the program.
 #[derive(Clone, Copy)]
 pub enum Status {
-    /// 0: the declarations are accepted, and their page is printed.
+    /// 0: what was asked for is printed: the page of accepted declarations, the links, an explanation, or the summary of made declarations.
     Accepted,
     /// 1: the declarations break rules, and reports are printed.
     Refused,
@@ -18,7 +18,7 @@ pub enum Status {
     WriteFailed,
     /// 5: memory ran out.
     NoMemory,
-    /// 6: the words are no command.
+    /// 6: the words are no command, or ask about something that accepted declarations don't have.
     BadWords,
     /// 7: the source gave more than 2^26 bytes.
     TooLong,
