@@ -118,8 +118,8 @@ const WALKS: [WalkRow; 10] = [
 fn walk_row(rt: &impl Abort, alloc: Global, row: &WalkRow) -> Result<(), Fail> {
     let (bounds, start, longer, shorter) = row;
     let env = environment(alloc, &["a", "b", "c", "d"], bounds, 6)?;
-    assert_eq!(rt; longer_from(alloc, &env, *start)?.as_slice(), *longer);
-    assert_eq!(rt; shorter_from(alloc, &env, *start)?.as_slice(), *shorter);
+    assert!(rt; longer_from(alloc, &env, *start)?.as_slice() == *longer);
+    assert!(rt; shorter_from(alloc, &env, *start)?.as_slice() == *shorter);
     Ok(())
 }
 
@@ -138,10 +138,9 @@ fn steps(rt: HostRuntime) -> Result<(), Fail> {
     let env = environment(alloc, &["a", "b", "c"], &[(1, 0), (2, 1)], 3)?;
     assert!(rt; env.contains(Lifetime::new(0)));
     let (longer, steps) = counted::<Brand>(alloc, &env, Lifetime::new(0), Blank::new(1))?;
-    assert_eq!(rt; steps, 3);
-    assert_eq!(rt;
-        longer.as_slice(),
-        [Lifetime::new(0), Lifetime::new(1), Lifetime::new(2)].as_slice()
+    assert!(rt; steps == 3);
+    assert!(rt;
+        longer.as_slice() == [Lifetime::new(0), Lifetime::new(1), Lifetime::new(2)].as_slice()
     );
     Ok(())
 }
@@ -162,9 +161,8 @@ fn in_method(alloc: Global) -> Result<Lifetimes, NoMemory> {
 #[test]
 fn substitution(rt: HostRuntime) -> Result<(), Fail> {
     let outer = in_method(rt.alloc())?;
-    assert_eq!(rt;
-        outer.as_slice(),
-        [number(4), MaybeStatic::Static, MaybeStatic::Static].as_slice()
+    assert!(rt;
+        outer.as_slice() == [number(4), MaybeStatic::Static, MaybeStatic::Static].as_slice()
     );
     Ok(())
 }
@@ -172,7 +170,7 @@ fn substitution(rt: HostRuntime) -> Result<(), Fail> {
 #[test]
 fn substitution_of_one(rt: HostRuntime) -> Result<(), Fail> {
     let arguments = Lifetimes::from_slice(rt.alloc(), &[MaybeStatic::Static, number(4)])?;
-    assert_eq!(rt; Lifetime::new(1).as_method_lifetime(&arguments), number(4));
+    assert!(rt; Lifetime::new(1).as_method_lifetime(&arguments) == number(4));
     Ok(())
 }
 
@@ -183,8 +181,8 @@ fn given_one_by_one(rt: HostRuntime) -> Result<(), Fail> {
     for lifetime in outer.lifetimes() {
         given.push(lifetime)?;
     }
-    assert_eq!(rt; given.as_slice(), outer.as_slice());
-    assert_eq!(rt; given.len(), 3);
+    assert!(rt; given.as_slice() == outer.as_slice());
+    assert!(rt; given.len() == 3);
     Ok(())
 }
 
@@ -212,8 +210,8 @@ fn each_of(alloc: Global, env: &LifetimeEnv) -> Result<Vec<MaybeStatic<Lifetime>
 fn lists(rt: HostRuntime) -> Result<(), Fail> {
     let env = two_and_one(rt.alloc())?;
     let all = each_of(rt.alloc(), &env)?;
-    assert_eq!(rt; env.lifetimes(rt.alloc())?.as_slice(), all.as_slice());
-    assert_eq!(rt; all.len(), 3);
+    assert!(rt; env.lifetimes(rt.alloc())?.as_slice() == all.as_slice());
+    assert!(rt; all.len() == 3);
     Ok(())
 }
 
@@ -228,11 +226,8 @@ fn shorter_bounds(env: &LifetimeEnv, number: usize) -> Option<&[Lifetime]> {
 #[test]
 fn bounds(rt: HostRuntime) -> Result<(), Fail> {
     let env = two_and_one(rt.alloc())?;
-    assert_eq!(rt; longer_bounds(&env, 0), Some([Lifetime::new(1)].as_slice()));
-    assert_eq!(rt;
-        shorter_bounds(&env, 1),
-        Some([Lifetime::new(0)].as_slice())
-    );
+    assert!(rt; longer_bounds(&env, 0) == Some([Lifetime::new(1)].as_slice()));
+    assert!(rt; shorter_bounds(&env, 1) == Some([Lifetime::new(0)].as_slice()));
     assert!(rt; longer_bounds(&env, 2).is_none());
     Ok(())
 }
@@ -249,19 +244,16 @@ fn bounded_by_b(alloc: Global) -> Result<BoundedLifetime, Fail> {
 #[test]
 fn copies(rt: HostRuntime) -> Result<(), Fail> {
     let copy = bounded_by_b(rt.alloc())?.try_clone(rt.alloc())?;
-    assert_eq!(rt; copy.ident.as_str(), "a");
-    assert_eq!(rt; copy.shorter.len(), 0);
-    assert_eq!(rt;
-        copy.longer.as_slice().first().copied(),
-        Some(Lifetime::new(1))
-    );
+    assert!(rt; copy.ident.as_str() == "a");
+    assert!(rt; copy.shorter.len() == 0);
+    assert!(rt; copy.longer.as_slice().first().copied() == Some(Lifetime::new(1)));
     Ok(())
 }
 
 #[test]
 fn copies_of_lists(rt: HostRuntime) -> Result<(), Fail> {
     let longer = bounded_by_b(rt.alloc())?.longer.try_clone(rt.alloc())?;
-    assert_eq!(rt; longer.as_slice().first().copied(), Some(Lifetime::new(1)));
+    assert!(rt; longer.as_slice().first().copied() == Some(Lifetime::new(1)));
     Ok(())
 }
 
@@ -286,10 +278,10 @@ fn name_of(alloc: Global, env: &LifetimeEnv, number: usize) -> Result<Option<Str
 #[test]
 fn names(rt: HostRuntime) -> Result<(), Fail> {
     let env = environment(rt.alloc(), &["a", "long_name"], &[(1, 0)], 14)?;
-    assert_eq!(rt; env.num_lifetimes(), 14);
+    assert!(rt; env.num_lifetimes() == 14);
     for (number, expected) in NAMES {
         let name = name_of(rt.alloc(), &env, number)?;
-        assert_eq!(rt; name.as_ref().map(|name| name.as_str()), expected);
+        assert!(rt; name.as_ref().map(|name| name.as_str()) == expected);
     }
     Ok(())
 }

@@ -46,15 +46,15 @@ const WORDS: &str =
 #[test]
 fn identifiers_are_told_apart(rt: HostRuntime) -> Result<(), NoMemory> {
     for (text, is_good) in CASES {
-        assert_eq!(rt; is_ident(text), is_good);
+        assert!(rt; is_ident(text) == is_good);
         match IdentBuf::new(rt.alloc(), text) {
             Ok(ident) => {
                 assert!(rt; is_good);
-                assert_eq!(rt; ident.as_str(), text);
+                assert!(rt; ident.as_str() == text);
             }
             Err(fault) => {
                 assert!(rt; !is_good);
-                assert_eq!(rt; fault, IdentFault::Bad);
+                assert!(rt; fault == IdentFault::Bad);
             }
         }
     }
@@ -63,12 +63,12 @@ fn identifiers_are_told_apart(rt: HostRuntime) -> Result<(), NoMemory> {
 
 #[test]
 fn reserved_words_are_refused(rt: HostRuntime) -> Result<(), NoMemory> {
-    assert_eq!(rt; WORDS.split_whitespace().count(), 51);
+    assert!(rt; WORDS.split_whitespace().count() == 51);
     for word in WORDS.split_whitespace() {
         assert!(rt; !is_ident(word));
         let raw = format!(in rt.alloc(); "r#{word}")?;
         let begins_path = ["crate", "self", "super", "Self"].contains(&word);
-        assert_eq!(rt; is_ident(raw.as_str()), !begins_path);
+        assert!(rt; is_ident(raw.as_str()) == !begins_path);
     }
     Ok(())
 }
@@ -86,6 +86,6 @@ fn identifiers_are_copied_and_printed(rt: HostRuntime) -> Result<(), IdentFault>
     let ident = IdentBuf::new(rt.alloc(), "r#match")?;
     let copy = ident.try_clone(rt.alloc())?;
     assert!(rt; copy == ident);
-    assert_eq!(rt; copy.to_string(rt.alloc())?.as_str(), "r#match");
+    assert!(rt; copy.to_string(rt.alloc())?.as_str() == "r#match");
     Ok(())
 }

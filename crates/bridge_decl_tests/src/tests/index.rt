@@ -25,7 +25,7 @@ fn lifetimes_have_numbers(rt: HostRuntime) -> Result<(), Fail> {
     let index = index_lifetimes(rt.alloc(), &env)?;
     for (name, number) in [("a", Some(0)), ("b", Some(1)), ("c", None), ("", None)] {
         let name = Text::new(rt.alloc(), name)?;
-        assert_eq!(rt; index.get(&name).copied(), number);
+        assert!(rt; index.get(&name).copied() == number);
     }
     Ok(())
 }
@@ -41,8 +41,8 @@ fn a_name_keeps_its_first_value(rt: HostRuntime) -> Result<(), Fail> {
     ];
     for (name, value, earlier) in rows {
         let name = Text::new(rt.alloc(), name)?;
-        assert_eq!(rt; take_name(rt.alloc(), &mut index, &name, value)?, earlier);
+        assert!(rt; take_name(rt.alloc(), &mut index, &name, value)? == earlier);
     }
-    assert_eq!(rt; index.get(&Text::new(rt.alloc(), "b")?).copied(), Some('y'));
+    assert!(rt; index.get(&Text::new(rt.alloc(), "b")?).copied() == Some('y'));
     Ok(())
 }

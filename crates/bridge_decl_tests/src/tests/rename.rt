@@ -48,7 +48,7 @@ fn patterns_are_applied_and_handed_on(rt: HostRuntime) -> Result<(), RenameFault
     for (pattern, renamed, is_kept) in PATTERNS {
         let attr = RenameAttr::new(rt.alloc(), pattern)?;
         assert!(rt; attr.pattern() == Some(pattern));
-        assert_eq!(rt; attr.apply(rt.alloc(), "f")?.as_str(), renamed);
+        assert!(rt; attr.apply(rt.alloc(), "f")?.as_str() == renamed);
         assert!(rt; is_handed_on(rt.alloc(), &attr, is_kept)?);
     }
     Ok(())
@@ -58,7 +58,7 @@ fn patterns_are_applied_and_handed_on(rt: HostRuntime) -> Result<(), RenameFault
 fn the_empty_attribute_changes_nothing(rt: HostRuntime) -> Result<(), NoMemory> {
     let empty = RenameAttr::empty();
     assert!(rt; empty.is_empty());
-    assert_eq!(rt; empty.apply(rt.alloc(), "f")?.as_str(), "f");
+    assert!(rt; empty.apply(rt.alloc(), "f")?.as_str() == "f");
     assert!(rt; is_handed_on(rt.alloc(), &empty, true)?);
     Ok(())
 }
@@ -66,7 +66,7 @@ fn the_empty_attribute_changes_nothing(rt: HostRuntime) -> Result<(), NoMemory> 
 #[test]
 fn a_name_is_filled_in_once(rt: HostRuntime) -> Result<(), RenameFault> {
     let attr = RenameAttr::new(rt.alloc(), "a{0}b")?;
-    assert_eq!(rt; attr.apply(rt.alloc(), "{0}")?.as_str(), "a{0}b");
+    assert!(rt; attr.apply(rt.alloc(), "{0}")?.as_str() == "a{0}b");
     Ok(())
 }
 
@@ -75,7 +75,7 @@ fn patterns_with_two_places_are_refused(rt: HostRuntime) {
     for pattern in REFUSED {
         match RenameAttr::new(rt.alloc(), pattern) {
             Ok(_) => assert!(rt; false),
-            Err(fault) => assert_eq!(rt; fault, RenameFault::Pattern),
+            Err(fault) => assert!(rt; fault == RenameFault::Pattern),
         }
     }
 }

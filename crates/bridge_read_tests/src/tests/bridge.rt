@@ -149,10 +149,10 @@ fn a_whole_bridge_is_read(rt: HostRuntime) -> Result<(), Fail> {
         .ok()
         .ok_or("an input")?;
     let names = ["", "locale", "data"];
-    assert_eq!(rt; input.env.modules().len(), names.len());
+    assert!(rt; input.env.modules().len() == names.len());
     for (module, name) in input.env.modules().iter().zip(names.iter()) {
         let last = module.path.as_slice().last();
-        assert_eq!(rt; last.map_or("", |segment| segment.as_str()), *name);
+        assert!(rt; last.map_or("", |segment| segment.as_str()) == *name);
     }
     assert!(rt; input.validator.support.iterators && !input.validator.support.accessors);
     Ok(())

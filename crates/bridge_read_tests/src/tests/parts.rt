@@ -21,25 +21,25 @@ fn the_example_is_read(rt: HostRuntime) -> Result<(), Fail> {
     let [Item::Opaque(opaque)] = root.items.as_slice() else {
         return Err("the root has one opaque".into());
     };
-    assert_eq!(rt; opaque.name.as_str(), "O");
+    assert!(rt; opaque.name.as_str() == "O");
     let [method] = opaque.methods.as_slice() else {
         return Err("the opaque has one method".into());
     };
-    assert_eq!(rt; method.name.as_str(), "pick");
-    assert_eq!(rt; method.abi_name.as_str(), "pick");
+    assert!(rt; method.name.as_str() == "pick");
+    assert!(rt; method.abi_name.as_str() == "pick");
     let [param] = method.params.as_slice() else {
         return Err("the method has one parameter".into());
     };
-    assert_eq!(rt; param.name.as_str(), "y");
+    assert!(rt; param.name.as_str() == "y");
     let [a, b] = method.lifetime_env.nodes.as_slice() else {
         return Err("the method has two lifetimes".into());
     };
-    assert_eq!(rt; a.name.as_str(), "a");
-    assert_eq!(rt; a.longer.as_slice(), [1].as_slice());
-    assert_eq!(rt; a.shorter.as_slice(), [].as_slice());
-    assert_eq!(rt; b.name.as_str(), "b");
-    assert_eq!(rt; b.longer.as_slice(), [].as_slice());
-    assert_eq!(rt; b.shorter.as_slice(), [0].as_slice());
+    assert!(rt; a.name.as_str() == "a");
+    assert!(rt; a.longer.as_slice() == [1].as_slice());
+    assert!(rt; a.shorter.as_slice() == [].as_slice());
+    assert!(rt; b.name.as_str() == "b");
+    assert!(rt; b.longer.as_slice() == [].as_slice());
+    assert!(rt; b.shorter.as_slice() == [0].as_slice());
     Ok(())
 }
 
@@ -50,18 +50,18 @@ const SETTINGS: &str =
 fn settings_are_read(rt: HostRuntime) -> Result<(), Fail> {
     let input = read(rt.alloc(), SETTINGS)?;
     let backend = &input.validator;
-    assert_eq!(rt; backend.backend_name.as_str(), "js");
+    assert!(rt; backend.backend_name.as_str() == "js");
     assert!(rt; backend.support.option && backend.support.traits && !backend.support.callbacks);
     let [(name, value)] = backend.name_values.as_slice() else {
         return Err("there is one pair".into());
     };
-    assert_eq!(rt; name.as_str(), "abi");
-    assert_eq!(rt; value.as_str(), "wasm");
-    assert_eq!(rt; backend.other_backend_names.as_slice().len(), 1);
+    assert!(rt; name.as_str() == "abi");
+    assert!(rt; value.as_str() == "wasm");
+    assert!(rt; backend.other_backend_names.as_slice().len() == 1);
     assert!(rt; input.config.unsafe_references_in_callbacks);
-    assert_eq!(rt; input.urls.default_url(), Some("https://docs.example/"));
+    assert!(rt; input.urls.default_url() == Some("https://docs.example/"));
     let known = Text::new(rt.alloc(), "std")?;
-    assert_eq!(rt; input.urls.base_url(&known), Some("http://std.example/"));
+    assert!(rt; input.urls.base_url(&known) == Some("http://std.example/"));
     let absent = Text::new(rt.alloc(), "none")?;
     assert!(rt; input.urls.base_url(&absent).is_none());
     Ok(())
@@ -70,7 +70,7 @@ fn settings_are_read(rt: HostRuntime) -> Result<(), Fail> {
 #[test]
 fn absent_settings_allow_nothing(rt: HostRuntime) -> Result<(), Fail> {
     let input = read(rt.alloc(), r#"{"root":{},"backend":null}"#)?;
-    assert_eq!(rt; input.validator.backend_name.as_str(), "");
+    assert!(rt; input.validator.backend_name.as_str() == "");
     assert!(rt; !input.validator.support.option);
     assert!(rt; input.validator.name_values.as_slice().is_empty());
     assert!(rt; !input.config.unsafe_references_in_callbacks);
@@ -86,11 +86,11 @@ const NESTED: &str =
 fn modules_are_listed_before_those_inside_them(rt: HostRuntime) -> Result<(), Fail> {
     let input = read(rt.alloc(), NESTED)?;
     let paths: [&[&str]; 5] = [&[], &["m"], &["m", "n"], &["m", "o"], &["p"]];
-    assert_eq!(rt; input.env.modules().len(), paths.len());
+    assert!(rt; input.env.modules().len() == paths.len());
     for (module, path) in input.env.modules().iter().zip(paths.iter()) {
-        assert_eq!(rt; module.path.as_slice().len(), path.len());
+        assert!(rt; module.path.as_slice().len() == path.len());
         for (segment, name) in module.path.as_slice().iter().zip(path.iter()) {
-            assert_eq!(rt; segment.as_str(), *name);
+            assert!(rt; segment.as_str() == *name);
         }
     }
     Ok(())

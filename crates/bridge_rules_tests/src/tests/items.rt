@@ -86,8 +86,8 @@ fn writer(alloc: Global, is_able: bool, writer: WriteType) -> Result<String, NoM
 #[test]
 fn writers(rt: HostRuntime) -> Result<(), NoMemory> {
     for (target, without) in WRITERS {
-        assert_eq!(rt; writer(rt.alloc(), false, target)?.as_str(), without);
-        assert_eq!(rt; writer(rt.alloc(), true, target)?.as_str(), "ok");
+        assert!(rt; writer(rt.alloc(), false, target)?.as_str() == without);
+        assert!(rt; writer(rt.alloc(), true, target)?.as_str() == "ok");
     }
     Ok(())
 }
@@ -108,11 +108,8 @@ fn trait_(alloc: Global, is_able: bool, is_send: bool, is_sync: bool) -> Result<
 #[test]
 fn traits(rt: HostRuntime) -> Result<(), NoMemory> {
     for (is_send, is_sync, without) in TRAITS {
-        assert_eq!(rt;
-            trait_(rt.alloc(), false, is_send, is_sync)?.as_str(),
-            without
-        );
-        assert_eq!(rt; trait_(rt.alloc(), true, is_send, is_sync)?.as_str(), "ok");
+        assert!(rt; trait_(rt.alloc(), false, is_send, is_sync)?.as_str() == without);
+        assert!(rt; trait_(rt.alloc(), true, is_send, is_sync)?.as_str() == "ok");
     }
     Ok(())
 }
@@ -124,11 +121,8 @@ fn free_function(alloc: Global, is_able: bool) -> Result<String, NoMemory> {
 
 #[test]
 fn free_functions(rt: HostRuntime) -> Result<(), NoMemory> {
-    assert_eq!(rt;
-        free_function(rt.alloc(), false)?.as_str(),
-        "free_functions"
-    );
-    assert_eq!(rt; free_function(rt.alloc(), true)?.as_str(), "ok");
+    assert!(rt; free_function(rt.alloc(), false)?.as_str() == "free_functions");
+    assert!(rt; free_function(rt.alloc(), true)?.as_str() == "ok");
     Ok(())
 }
 

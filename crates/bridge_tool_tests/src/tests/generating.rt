@@ -116,9 +116,9 @@ fn over_failing(alloc: Global, write: usize) -> Result<Option<(u8, usize)>, Allo
 #[test]
 fn no_read_fails_where_nothing_is_read(rt: HostRuntime) -> Result<(), Fail> {
     let alloc = rt.alloc();
-    assert_eq!(rt; over_failing(alloc, 3)?, Some((0, 25)));
-    assert_eq!(rt; over_failing(alloc, 0)?, Some((4, 0)));
-    assert_eq!(rt; over_failing(alloc, 1)?, Some((4, 10)));
-    assert_eq!(rt; over_failing(alloc, 2)?, Some((4, 20)));
+    assert!(rt; over_failing(alloc, 3)? == Some((0, 25)));
+    assert!(rt; over_failing(alloc, 0)? == Some((4, 0)));
+    assert!(rt; over_failing(alloc, 1)? == Some((4, 10)));
+    assert!(rt; over_failing(alloc, 2)? == Some((4, 20)));
     Ok(())
 }

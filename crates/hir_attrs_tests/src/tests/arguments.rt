@@ -113,7 +113,7 @@ fn each_mark_takes_its_arguments(rt: HostRuntime) -> Result<(), NoMemory> {
     let backend = backend(rt.alloc(), true)?;
     for (mark, cells) in &ROWS {
         let found = with_all(rt.alloc(), &backend, mark)?;
-        assert_eq!(rt; found.as_str(), *cells);
+        assert!(rt; found.as_str() == *cells);
     }
     Ok(())
 }

@@ -110,7 +110,7 @@ fn renamed(
 fn a_mark_counts_under_its_condition(rt: HostRuntime) -> Result<(), NoMemory> {
     let backend = knowing(rt.alloc())?;
     for (condition, text) in &ROWS {
-        assert_eq!(rt; renamed(rt.alloc(), &backend, condition)?.as_str(), *text);
+        assert!(rt; renamed(rt.alloc(), &backend, condition)?.as_str() == *text);
     }
     Ok(())
 }
@@ -152,7 +152,7 @@ fn conditions_nest(rt: HostRuntime) -> Result<(), NoMemory> {
     for (list, times, inner, text) in &NESTED {
         let condition = nested(rt.alloc(), list, *times, inner)?;
         let found = renamed(rt.alloc(), &backend, condition.as_str())?;
-        assert_eq!(rt; found.as_str(), *text);
+        assert!(rt; found.as_str() == *text);
     }
     Ok(())
 }

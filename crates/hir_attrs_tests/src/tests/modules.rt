@@ -90,6 +90,6 @@ fn modules_start_from_those_around_them(rt: HostRuntime) -> Result<(), NoMemory>
     let env = environment(rt.alloc())?;
     let found = lowered(rt.alloc(), &env, &backend)?;
     let expected = expected(rt.alloc())?;
-    assert_eq!(rt; found.as_str(), expected.as_str());
+    assert!(rt; found.as_str() == expected.as_str());
     Ok(())
 }

@@ -79,8 +79,8 @@ fn operator(alloc: Global, name: &str) -> Result<&'static str, NoMemory> {
 fn each_name_gives_its_method(rt: HostRuntime) -> Result<(), NoMemory> {
     for (name, cells, overloaded) in &ROWS {
         let found = with_all(rt.alloc(), name)?;
-        assert_eq!(rt; found.as_str(), *cells);
-        assert_eq!(rt; operator(rt.alloc(), name)?, *overloaded);
+        assert!(rt; found.as_str() == *cells);
+        assert!(rt; operator(rt.alloc(), name)? == *overloaded);
     }
     Ok(())
 }

@@ -69,7 +69,7 @@ fn a_million_digits_are_read(rt: HostRuntime) -> Result<(), NoMemory> {
     let backend = backend(rt.alloc(), true)?;
     for (digit, text) in &[("0", "Integer(7)"), ("1", "!BadDefaultValue")] {
         let marks = long(rt.alloc(), digit)?;
-        assert_eq!(rt; read(rt.alloc(), &backend, marks.as_str())?.as_str(), *text);
+        assert!(rt; read(rt.alloc(), &backend, marks.as_str())?.as_str() == *text);
     }
     Ok(())
 }

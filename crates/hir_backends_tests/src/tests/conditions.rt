@@ -112,8 +112,8 @@ fn each_form_comes_to_its_answer(rt: HostRuntime) -> Result<(), NoMemory> {
     let backend = BasicAttributeValidator::new(rt.alloc(), "cpp")?;
     for (form, parts, allowed, elsewhere) in &ROWS {
         let cfg = around(rt.alloc(), form, list(rt.alloc(), parts)?)?;
-        assert_eq!(rt; comes_to(&backend, &cfg, true), *allowed);
-        assert_eq!(rt; comes_to(&backend, &cfg, false), *elsewhere);
+        assert!(rt; comes_to(&backend, &cfg, true) == *allowed);
+        assert!(rt; comes_to(&backend, &cfg, false) == *elsewhere);
     }
     Ok(())
 }
@@ -147,12 +147,12 @@ fn conditions_nest(rt: HostRuntime) -> Result<(), NoMemory> {
     let backend = BasicAttributeValidator::new(rt.alloc(), "cpp")?;
     for (forms, inner, answer) in &NESTED {
         let cfg = nested(rt.alloc(), forms, inner)?;
-        assert_eq!(rt; comes_to(&backend, &cfg, true), *answer);
+        assert!(rt; comes_to(&backend, &cfg, true) == *answer);
     }
     // as deep as an input can nest them
     let cfg = nested(rt.alloc(), &["any"; 126], "auto")?;
-    assert_eq!(rt; comes_to(&backend, &cfg, true), "true+");
+    assert!(rt; comes_to(&backend, &cfg, true) == "true+");
     let cfg = nested(rt.alloc(), &["not"; 125], "cpp")?;
-    assert_eq!(rt; comes_to(&backend, &cfg, true), "false");
+    assert!(rt; comes_to(&backend, &cfg, true) == "false");
     Ok(())
 }

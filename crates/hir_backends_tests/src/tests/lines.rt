@@ -114,13 +114,13 @@ fn links_are_told_in_order(rt: HostRuntime) -> Result<(), NoMemory> {
     let mut lines = LinkLines::new(rt.alloc());
     lines.push_module(rt.alloc(), &urls, &root)?;
     lines.push_module(rt.alloc(), &urls, &inner)?;
-    assert_eq!(rt; lines.into_text(rt.alloc())?.as_str(), LINES);
+    assert!(rt; lines.into_text(rt.alloc())?.as_str() == LINES);
     Ok(())
 }
 
 #[test]
 fn without_links_there_is_a_last_line(rt: HostRuntime) -> Result<(), NoMemory> {
     let lines = LinkLines::new(rt.alloc());
-    assert_eq!(rt; lines.into_text(rt.alloc())?.as_str(), "links 0\n");
+    assert!(rt; lines.into_text(rt.alloc())?.as_str() == "links 0\n");
     Ok(())
 }

@@ -45,7 +45,7 @@ fn with_two(alloc: Global) -> Result<DocsUrlGenerator, NoMemory> {
 #[test]
 fn crates_have_their_own_urls(rt: HostRuntime) -> Result<(), NoMemory> {
     let urls = with_two(rt.alloc())?;
-    assert_eq!(rt; urls.default_url(), Some("https://docs.example"));
+    assert!(rt; urls.default_url() == Some("https://docs.example"));
     let cases = [
         ("icu", "https://icu.example"),
         ("std", "https://doc.rust-lang.org"),

@@ -53,10 +53,10 @@ fn stopped(field: &BorrowingField<'_>, at: usize) -> Result<(), usize> {
 
 /// Compares the names of a leaf, `whole_a.inner.text`.
 fn compare_names(rt: &impl Abort, field: &BorrowingField<'_>) {
-    assert_eq!(rt; backtraced(field), (3, 4));
-    assert_eq!(rt; stopped(field, 0), Err(7));
-    assert_eq!(rt; stopped(field, 1), Err(5));
-    assert_eq!(rt; stopped(field, 3), Ok(()));
+    assert!(rt; backtraced(field) == (3, 4));
+    assert!(rt; stopped(field, 0) == Err(7));
+    assert!(rt; stopped(field, 1) == Err(5));
+    assert!(rt; stopped(field, 3) == Ok(()));
 }
 
 /// How often the lifetime of this number is visited with a leaf.
@@ -78,8 +78,8 @@ fn compare_calls(rt: &impl Abort, visitor: &BorrowingFieldVisitor<'_>) {
         None => assert!(rt; false),
     }
     // `page` carries both lifetimes, and the others the second alone.
-    assert_eq!(rt; visits(visitor, 0), 1);
-    assert_eq!(rt; visits(visitor, 1), 3);
+    assert!(rt; visits(visitor, 0) == 1);
+    assert!(rt; visits(visitor, 1) == 3);
 }
 
 /// The same for the function of a context.

@@ -43,11 +43,11 @@ fn compare_leaf(
 ) -> Result<(), Fail> {
     let (path, numbers) = expected;
     let found = format!(in alloc; "{field}")?;
-    assert_eq!(rt; found.as_str(), *path);
+    assert!(rt; found.as_str() == *path);
     let carried = field.lifetimes();
-    assert_eq!(rt; carried.len(), numbers.len());
+    assert!(rt; carried.len() == numbers.len());
     for (found, number) in carried.as_slice().iter().zip(numbers.iter()) {
-        assert_eq!(rt; *found, lifetime(*number));
+        assert!(rt; *found == lifetime(*number));
     }
     Ok(())
 }
@@ -65,7 +65,7 @@ fn compare_fields(
             None => return Err(Fail::from("there is no leaf")),
         }
     }
-    assert_eq!(rt; visitor.len(), expected.len());
+    assert!(rt; visitor.len() == expected.len());
     assert!(rt; visitor.get(expected.len()).is_none());
     Ok(())
 }
@@ -98,9 +98,9 @@ fn edge_of<'e>(edge: &LifetimeEdge<'e>) -> Edge<'e> {
 
 /// Compares the edges under a lifetime.
 fn compare_edges(rt: &impl Abort, info: &BorrowedLifetimeInfo<'_>, expected: &[Edge<'_>]) {
-    assert_eq!(rt; info.incoming_edges.len(), expected.len());
+    assert!(rt; info.incoming_edges.len() == expected.len());
     for (edge, expected) in info.incoming_edges.iter().zip(expected.iter()) {
-        assert_eq!(rt; edge_of(edge), *expected);
+        assert!(rt; edge_of(edge) == *expected);
     }
 }
 
@@ -152,7 +152,7 @@ fn compare_map(
     map: &BTreeMap<Lifetime, BorrowedLifetimeInfo<'_>>,
     expected: &[Held<'_>],
 ) {
-    assert_eq!(rt; map.len(), expected.len());
+    assert!(rt; map.len() == expected.len());
     for (number, edges) in expected {
         match map.get(&Lifetime::new(*number)) {
             Some(info) => compare_edges(rt, info, edges),

@@ -39,12 +39,12 @@ const ROWS: [(&[usize], &[(usize, usize)]); 4] = [
 /// Compares what is told.
 fn compare(rt: &impl Abort, told: &StructBorrowInfo<'_>, expected: &[(usize, usize)]) {
     let map = &told.borrowed_struct_lifetime_map;
-    assert_eq!(rt; told.env.num_lifetimes(), 3);
-    assert_eq!(rt; map.len(), expected.len());
+    assert!(rt; told.env.num_lifetimes() == 3);
+    assert!(rt; map.len() == expected.len());
     for (at, number) in expected {
         match map.get(&Lifetime::new(*at)) {
             Some(set) => {
-                assert_eq!(rt; set.len(), 1);
+                assert!(rt; set.len() == 1);
                 assert!(rt; set.contains(&Lifetime::new(*number)));
             }
             None => assert!(rt; false),
@@ -87,7 +87,7 @@ fn compare_row(
     let path = struct_path(alloc, MaybeOwn::Own, 0, numbers)?;
     match told(alloc, tcx, &path)? {
         Some(told) => compare(rt, &told, expected),
-        None => assert_eq!(rt; expected.len(), 0),
+        None => assert!(rt; expected.len() == 0),
     }
     Ok(())
 }

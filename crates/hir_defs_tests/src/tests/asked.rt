@@ -124,22 +124,22 @@ fn is_called(name: &str, expected: &str) -> bool {
 fn compare_types(rt: &impl Abort, tcx: &TypeContext) {
     let mut place: usize = 0;
     for (id, def) in tcx.all_types() {
-        assert_eq!(rt; id, id_at(place));
+        assert!(rt; id == id_at(place));
         assert!(rt; is_called(def.name().as_str(), name_at(place)));
         place = place.wrapping_add(1);
     }
-    assert_eq!(rt; place, 5);
+    assert!(rt; place == 5);
 }
 
 /// Compares all functions of the context.
 fn compare_functions(rt: &impl Abort, tcx: &TypeContext) {
     let mut place: usize = 0;
     for (id, def) in tcx.all_free_functions() {
-        assert_eq!(rt; id, FunctionId::new(place));
+        assert!(rt; id == FunctionId::new(place));
         assert!(rt; is_called(def.name.as_str(), function_at(place)));
         place = place.wrapping_add(1);
     }
-    assert_eq!(rt; place, 2);
+    assert!(rt; place == 2);
 }
 
 /// Compares all traits of the context.
@@ -147,8 +147,8 @@ fn compare_traits(rt: &impl Abort, tcx: &TypeContext) -> Result<(), Fail> {
     let mut traits = tcx.all_traits();
     match traits.next() {
         Some((id, def)) => {
-            assert_eq!(rt; id, TraitId::new(0));
-            assert_eq!(rt; def.name.as_str(), "Sink");
+            assert!(rt; id == TraitId::new(0));
+            assert!(rt; def.name.as_str() == "Sink");
         }
         None => return Err(Fail::from("there is a trait")),
     }
@@ -197,7 +197,7 @@ fn compare_names(rt: &impl Abort, tcx: &TypeContext) {
         (SymbolId::FunctionId(FunctionId::new(2)), None),
     ];
     for (id, expected) in &rows {
-        assert_eq!(rt; found(tcx, id), *expected);
+        assert!(rt; found(tcx, id) == *expected);
     }
 }
 

@@ -54,7 +54,7 @@ fn what_may_be_written_is_held_so(rt: HostRuntime) -> Result<(), Fail> {
     ];
     for (owner, expected) in rows {
         let receiver = line(alloc, owner)?;
-        assert_eq!(rt; may_write(alloc, receiver), expected);
+        assert!(rt; may_write(alloc, receiver) == expected);
     }
     let color = SelfType::Enum(EnumPath {
         tcx_id: EnumId::new(0),
@@ -85,7 +85,7 @@ fn number_of(param: &Param) -> Option<i128> {
 fn a_parameter_may_have_a_value(rt: HostRuntime) -> Result<(), Fail> {
     for value in [None, Some(7)] {
         let name = IdentBuf::new(rt.alloc(), "depth")?;
-        assert_eq!(rt; number_of(&param(rt.alloc(), name, value)), value);
+        assert!(rt; number_of(&param(rt.alloc(), name, value)) == value);
     }
     Ok(())
 }
@@ -93,9 +93,9 @@ fn a_parameter_may_have_a_value(rt: HostRuntime) -> Result<(), Fail> {
 /// Compares all lifetimes of a method that has three.
 fn compare_lifetimes(rt: &impl Abort, alloc: Global, method: &Method) -> Result<(), Fail> {
     let all = method.method_lifetimes(alloc)?;
-    assert_eq!(rt; all.len(), 3);
+    assert!(rt; all.len() == 3);
     for (number, found) in all.as_slice().iter().enumerate() {
-        assert_eq!(rt; *found, lifetime(number));
+        assert!(rt; *found == lifetime(number));
     }
     Ok(())
 }
@@ -110,11 +110,11 @@ fn a_method_has_all_its_lifetimes(rt: HostRuntime) -> Result<(), Fail> {
 
 /// Compares what is asked of a type with its name, and with whether something iterates over it.
 fn compare(rt: &impl Abort, def: TypeDef<'_>, name: &str, iterable: bool) {
-    assert_eq!(rt; def.name().as_str(), name);
+    assert!(rt; def.name().as_str() == name);
     assert!(rt; def.docs().is_empty());
-    assert_eq!(rt; def.methods().len(), 0);
+    assert!(rt; def.methods().len() == 0);
     assert!(rt; !def.attrs().disable);
-    assert_eq!(rt; def.special_method_presence().iterable.is_some(), iterable);
+    assert!(rt; def.special_method_presence().iterable.is_some() == iterable);
 }
 
 #[test]

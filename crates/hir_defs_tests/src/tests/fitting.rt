@@ -150,7 +150,7 @@ pub fn told_of(alloc: Global, case: &Case) -> Result<Told, Fail> {
 fn all_that_is_named_is_there(rt: HostRuntime) -> Result<(), Fail> {
     for (opaques, structs, expected) in &ROWS {
         let found = told_of(rt.alloc(), &Case::Defs(*opaques, *structs))?;
-        assert_eq!(rt; found, *expected);
+        assert!(rt; found == *expected);
     }
     Ok(())
 }
@@ -163,7 +163,7 @@ fn what_iterates_is_there(rt: HostRuntime) -> Result<(), Fail> {
         (Some(1), Some((OPAQUE, 0, OPAQUE, 1))),
     ];
     for (iterable, expected) in rows {
-        assert_eq!(rt; told_of(rt.alloc(), &Case::Iterable(iterable))?, expected);
+        assert!(rt; told_of(rt.alloc(), &Case::Iterable(iterable))? == expected);
     }
     Ok(())
 }

@@ -67,7 +67,7 @@ pub fn add_chain(alloc: Global, parts: &mut ContextParts, len: usize) -> Result<
 fn no_struct_contains_itself(rt: HostRuntime) -> Result<(), Fail> {
     for (structs, expected) in &ROWS {
         let found = told_of(rt.alloc(), &Case::Defs(&[], *structs))?;
-        assert_eq!(rt; found, told(*expected));
+        assert!(rt; found == told(*expected));
     }
     Ok(())
 }
@@ -76,7 +76,7 @@ fn no_struct_contains_itself(rt: HostRuntime) -> Result<(), Fail> {
 fn chains_have_256_structs_at_most(rt: HostRuntime) -> Result<(), Fail> {
     // The struct 256 is the first that has so many below it; where there is one more, it still is.
     for (len, expected) in [(255, None), (256, None), (257, Some(256)), (258, Some(256))] {
-        assert_eq!(rt; told_of(rt.alloc(), &Case::Chain(len))?, told(expected));
+        assert!(rt; told_of(rt.alloc(), &Case::Chain(len))? == told(expected));
     }
     Ok(())
 }

@@ -41,10 +41,10 @@ fn compare_link(
     pointer: Option<usize>,
     given: (usize, usize),
 ) {
-    assert_eq!(rt; link.self_lifetime(), pointer.map(lifetime));
+    assert!(rt; link.self_lifetime() == pointer.map(lifetime));
     let mut pairs = link.lifetimes_def_only();
-    assert_eq!(rt; pairs.next().map(|pair| pair.0), Some(lifetime(given.0)));
-    assert_eq!(rt; pairs.next().map(|pair| pair.0), Some(lifetime(given.1)));
+    assert!(rt; pairs.next().map(|pair| pair.0) == Some(lifetime(given.0)));
+    assert!(rt; pairs.next().map(|pair| pair.0) == Some(lifetime(given.1)));
     assert!(rt; pairs.next().is_none());
 }
 
@@ -106,8 +106,8 @@ fn compare_resolved(
     if tcx.opaques().len() <= page.tcx_id.index() || tcx.structs().len() <= rest.tcx_id.index() {
         return Err(Fail::from("Page and Rest are there"));
     }
-    assert_eq!(rt; page.resolve(tcx).name.as_str(), "Page");
-    assert_eq!(rt; rest.resolve(tcx).name.as_str(), "Rest");
+    assert!(rt; page.resolve(tcx).name.as_str() == "Page");
+    assert!(rt; rest.resolve(tcx).name.as_str() == "Rest");
     Ok(())
 }
 

@@ -32,9 +32,9 @@ fn definitions_name_their_lifetimes(rt: HostRuntime) -> Result<(), ElideFault> {
 fn definitions_leave_no_lifetime_out(rt: HostRuntime) -> Result<(), ElideFault> {
     let env = one_name(rt.alloc(), "a")?;
     let mut lowerer = DefinitionLowerer::new(&env);
-    assert_eq!(rt;
-        lifetimes_are(rt.alloc(), &mut lowerer, &[], &env, &[]),
-        Err(ElideFault::AnonymousInDefinition)
+    assert!(rt;
+        lifetimes_are(rt.alloc(), &mut lowerer, &[], &env, &[])
+            == Err(ElideFault::AnonymousInDefinition)
     );
     Ok(())
 }

@@ -19,7 +19,7 @@ fn after_receiver(
 {
     let start = SelfParamLifetimeLowerer::new(alloc, env)?;
     let (borrow, params) = start.lower_self_ref(&Written::Anonymous)?;
-    assert_eq!(rt; number_of(&borrow), 0);
+    assert!(rt; number_of(&borrow) == 0);
     Ok(params)
 }
 
@@ -30,7 +30,7 @@ fn lower_params(
     params: &mut ParamLifetimeLowerer,
     opaque: &LifetimeEnv,
 ) -> Result<(), ElideFault> {
-    assert_eq!(rt; next_number(params, &Written::Anonymous)?, 1);
+    assert!(rt; next_number(params, &Written::Anonymous)? == 1);
     assert!(rt; lifetimes_are(alloc, params, &[], opaque, &[2])?);
     for _ in 0..2 {
         assert!(rt; generics_are(alloc, params, &[], opaque, true, &[3])?);
@@ -49,7 +49,7 @@ fn lower_return(
 {
     let mut returned = returned;
     assert!(rt; generics_are(alloc, &mut returned, &[Written::Static], opaque, true, &[3])?);
-    assert_eq!(rt; returned.finish().num_lifetimes(), 4);
+    assert!(rt; returned.finish().num_lifetimes() == 4);
     Ok(())
 }
 
@@ -64,7 +64,7 @@ fn anonymous_lifetimes_are_counted(rt: HostRuntime) -> Result<(), ElideFault> {
 
 fn lower_all(rt: &impl Abort, params: &mut ParamLifetimeLowerer) -> Result<(), ElideFault> {
     for number in 0..4095 {
-        assert_eq!(rt; next_number(params, &Written::Anonymous)?, number);
+        assert!(rt; next_number(params, &Written::Anonymous)? == number);
     }
     Ok(())
 }
@@ -75,6 +75,6 @@ fn as_many_lifetimes_as_there_may_be(rt: HostRuntime) -> Result<(), ElideFault> 
     let mut params = SelfParamLifetimeLowerer::new(rt.alloc(), &env)?.no_self_ref();
     lower_all(&rt, &mut params)?;
     let more = next_number(&mut params, &Written::Anonymous);
-    assert_eq!(rt; more, Err(ElideFault::TooManyLifetimes));
+    assert!(rt; more == Err(ElideFault::TooManyLifetimes));
     Ok(())
 }

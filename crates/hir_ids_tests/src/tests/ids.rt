@@ -37,11 +37,11 @@ fn types_convert_to_and_fro(rt: HostRuntime) {
     for place in [0, 7] {
         let symbols = symbols_at(place);
         for (kind, id) in types_at(place).iter().enumerate() {
-            assert_eq!(rt; kind_and_place(*id), (kind, place));
+            assert!(rt; kind_and_place(*id) == (kind, place));
             let symbol = SymbolId::from(*id);
-            assert_eq!(rt; symbols.get(kind), Some(&symbol));
-            assert_eq!(rt; TypeId::try_from(symbol), Ok(*id));
-            assert_eq!(rt; TraitId::try_from(symbol), Err(()));
+            assert!(rt; symbols.get(kind) == Some(&symbol));
+            assert!(rt; TypeId::try_from(symbol) == Ok(*id));
+            assert!(rt; TraitId::try_from(symbol) == Err(()));
         }
     }
 }
@@ -59,10 +59,10 @@ fn function_at(place: usize) -> SymbolId {
 #[test]
 fn traits_and_functions_are_no_types(rt: HostRuntime) {
     for place in [0, 2] {
-        assert_eq!(rt; TraitId::try_from(trait_at(place)), Ok(TraitId::new(place)));
-        assert_eq!(rt; TypeId::try_from(trait_at(place)), Err(()));
-        assert_eq!(rt; TypeId::try_from(function_at(place)), Err(()));
-        assert_eq!(rt; TraitId::try_from(function_at(place)), Err(()));
+        assert!(rt; TraitId::try_from(trait_at(place)) == Ok(TraitId::new(place)));
+        assert!(rt; TypeId::try_from(trait_at(place)) == Err(()));
+        assert!(rt; TypeId::try_from(function_at(place)) == Err(()));
+        assert!(rt; TraitId::try_from(function_at(place)) == Err(()));
     }
 }
 
@@ -81,8 +81,8 @@ fn kinds_come_before_places(rt: HostRuntime) {
     ];
     for (at, low) in ascending.iter().enumerate() {
         for (place, high) in ascending.iter().enumerate() {
-            assert_eq!(rt; low < high, at < place);
-            assert_eq!(rt; low == high, at == place);
+            assert!(rt; (low < high) == (at < place));
+            assert!(rt; (low == high) == (at == place));
         }
     }
 }

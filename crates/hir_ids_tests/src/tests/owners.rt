@@ -57,18 +57,18 @@ fn owners_tell_what_they_are(rt: HostRuntime) {
         },
     ];
     for row in &rows {
-        assert_eq!(rt; MaybeOwn::is_owned(&row.owner), row.owned);
-        assert_eq!(rt; MaybeOwn::mutability(&row.owner).is_mutable(), row.mutable);
+        assert!(rt; MaybeOwn::is_owned(&row.owner) == row.owned);
+        assert!(rt; MaybeOwn::mutability(&row.owner).is_mutable() == row.mutable);
         let (owned, mutable, lifetime) = told(&row.owner);
-        assert_eq!(rt; owned, row.owned);
-        assert_eq!(rt; mutable.is_none(), row.owned);
-        assert_eq!(rt; mutable.unwrap_or(true), row.mutable);
-        assert_eq!(rt; lifetime, row.lifetime);
+        assert!(rt; owned == row.owned);
+        assert!(rt; mutable.is_none() == row.owned);
+        assert!(rt; mutable.unwrap_or(true) == row.mutable);
+        assert!(rt; lifetime == row.lifetime);
         let Some(borrow) = row.owner.as_borrowed() else {
             assert!(rt; row.owned);
             continue;
         };
-        assert_eq!(rt; told(borrow).2, row.lifetime);
+        assert!(rt; told(borrow).2 == row.lifetime);
         assert!(rt; !MaybeOwn::is_owned(&MaybeOwn::from(Some(*borrow))));
     }
     assert!(rt; MaybeOwn::is_owned(&MaybeOwn::from(None)));
@@ -77,6 +77,6 @@ fn owners_tell_what_they_are(rt: HostRuntime) {
 #[test]
 fn a_marker_says_what_it_was_made_of(rt: HostRuntime) {
     for optional in [true, false] {
-        assert_eq!(rt; Optional::new(optional).get(), optional);
+        assert!(rt; Optional::new(optional).get() == optional);
     }
 }

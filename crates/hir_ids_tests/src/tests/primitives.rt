@@ -27,6 +27,6 @@ const NAMES: [(PrimitiveType, &str); 18] = [
 #[test]
 fn names_are_upstreams(rt: HostRuntime) {
     for (primitive, name) in NAMES {
-        assert_eq!(rt; primitive.as_str(), name);
+        assert!(rt; primitive.as_str() == name);
     }
 }

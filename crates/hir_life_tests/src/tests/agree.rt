@@ -87,11 +87,11 @@ fn walked(alloc: Global, env: &LifetimeEnv, lt: Lifetime) -> Result<Found, Fail>
 
 /// The walks begin with `start`, and that to the longer ones is the list.
 fn lists_agree(rt: &impl Abort, found: &Found, start: usize, listed: &[Lifetime]) {
-    assert_eq!(rt; found.longer.first(), Some(&start));
-    assert_eq!(rt; found.shorter.first(), Some(&start));
-    assert_eq!(rt; listed.len(), found.longer.len());
+    assert!(rt; found.longer.first() == Some(&start));
+    assert!(rt; found.shorter.first() == Some(&start));
+    assert!(rt; listed.len() == found.longer.len());
     for (one, other) in listed.iter().zip(found.longer.iter()) {
-        assert_eq!(rt; one.index(), *other);
+        assert!(rt; one.index() == *other);
     }
 }
 
@@ -109,15 +109,9 @@ fn search_agrees(
 {
     let outlives = outlives_plainly(alloc, env, other, lt)?;
     let outlived = outlives_plainly(alloc, env, lt, other)?;
-    assert_eq!(rt;
-        occurrences(&found.longer, other.index()),
-        usize::from(outlives)
-    );
-    assert_eq!(rt;
-        occurrences(&found.shorter, other.index()),
-        usize::from(outlived)
-    );
-    assert_eq!(rt; found.flags.get(other.index()).copied(), Some(outlives));
+    assert!(rt; occurrences(&found.longer, other.index()) == usize::from(outlives));
+    assert!(rt; occurrences(&found.shorter, other.index()) == usize::from(outlived));
+    assert!(rt; found.flags.get(other.index()).copied() == Some(outlives));
     Ok(())
 }
 
@@ -197,7 +191,7 @@ fn visits_agree(
     for other in env.all_lifetimes() {
         assert!(rt; env.contains(other));
         let due = is_due(alloc, env, first, second, other)?;
-        assert_eq!(rt; counts.get(other.index()).copied(), Some(u32::from(due)));
+        assert!(rt; counts.get(other.index()).copied() == Some(u32::from(due)));
     }
     Ok(())
 }
@@ -209,7 +203,7 @@ fn agrees(rt: &impl Abort, alloc: Global, env: &LifetimeEnv) -> Result<(), Fail>
         let second = Lifetime::new((start + 1) % COUNT);
         assert!(rt; env.contains(first) && env.contains(second));
         let (listed, steps) = counted::<Brand>(alloc, env, first, Blank::new(1))?;
-        assert_eq!(rt; listed.len(), steps);
+        assert!(rt; listed.len() == steps);
         walks_agree(rt, alloc, env, first, &listed)?;
         visits_agree(rt, alloc, env, first, second)?;
     }
@@ -243,6 +237,6 @@ fn small_environments(rt: HostRuntime) -> Result<(), Fail> {
     ] {
         number = number.saturating_add(all_agree(&rt, alloc, texts)?);
     }
-    assert_eq!(rt; number, 44);
+    assert!(rt; number == 44);
     Ok(())
 }

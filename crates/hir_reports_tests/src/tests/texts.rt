@@ -322,8 +322,8 @@ const ROWS: [(Rule, &str, &str); 68] = [
 fn each_rule_has_its_name_and_text(rt: HostRuntime) -> Result<(), NoMemory> {
     for (rule, name, text) in &ROWS {
         let error = LoweringError::new(rt.alloc(), *rule, &["a", "b", "c", "d", "e"])?;
-        assert_eq!(rt; rule.name(), *name);
-        assert_eq!(rt; error.to_string(rt.alloc())?.as_str(), *text);
+        assert!(rt; rule.name() == *name);
+        assert!(rt; error.to_string(rt.alloc())?.as_str() == *text);
     }
     Ok(())
 }
@@ -350,7 +350,7 @@ fn a_text_needs_no_arguments(rt: HostRuntime) -> Result<(), NoMemory> {
     for (rule, count, text) in &SHORT {
         let args = ["a", "b", "c"];
         let error = LoweringError::new(rt.alloc(), *rule, &args[..(*count).min(3)])?;
-        assert_eq!(rt; error.to_string(rt.alloc())?.as_str(), *text);
+        assert!(rt; error.to_string(rt.alloc())?.as_str() == *text);
     }
     Ok(())
 }
@@ -399,8 +399,8 @@ const PLACES: [(&[&str], &str, &str, &str, &str); 8] = [
 fn places_are_joined(rt: HostRuntime) -> Result<(), NoMemory> {
     for (module, item, subitem, place, within) in &PLACES {
         let context = context(rt.alloc(), module, item, subitem)?;
-        assert_eq!(rt; context.to_string(rt.alloc())?.as_str(), *place);
-        assert_eq!(rt; context.location(rt.alloc())?.as_str(), *within);
+        assert!(rt; context.to_string(rt.alloc())?.as_str() == *place);
+        assert!(rt; context.location(rt.alloc())?.as_str() == *within);
     }
     Ok(())
 }
@@ -412,7 +412,7 @@ fn a_report_has_two_lines(rt: HostRuntime) -> Result<(), NoMemory> {
         context: context(rt.alloc(), &["maps"], "Map", "find")?,
     };
     let lines = "Lowering error in maps::Map::find\n  UnresolvedPath: Kex names nothing\n";
-    assert_eq!(rt; report.to_string(rt.alloc())?.as_str(), lines);
-    assert_eq!(rt; report.get_location(rt.alloc())?.as_str(), "Map::find");
+    assert!(rt; report.to_string(rt.alloc())?.as_str() == lines);
+    assert!(rt; report.get_location(rt.alloc())?.as_str() == "Map::find");
     Ok(())
 }

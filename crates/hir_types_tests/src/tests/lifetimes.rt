@@ -32,10 +32,10 @@ fn names(rt: &impl Abort, ty: &OutType, numbers: &[Option<usize>]) -> Result<(),
         let Some((first, others)) = rest.split_first() else {
             return Err(Fail::from("too many lifetimes"));
         };
-        assert_eq!(rt; found, lifetime(*first));
+        assert!(rt; found == lifetime(*first));
         rest = others;
     }
-    assert_eq!(rt; rest.len(), 0);
+    assert!(rt; rest.len() == 0);
     Ok(())
 }
 
@@ -108,10 +108,10 @@ fn an_owned_slice_of_opaques_lives_as_these(rt: HostRuntime) -> Result<(), Fail>
     let alloc = rt.alloc();
     let of_owned = opaque(alloc, &[Some(5)], false, shared(9))?;
     let slice: Slice<hir_types::OutputOnly> = Slice::Opaque(MaybeOwn::Own, of_owned);
-    assert_eq!(rt; slice.lifetime().copied(), Some(lifetime(Some(9))));
+    assert!(rt; slice.lifetime().copied() == Some(lifetime(Some(9))));
     let held = MaybeOwn::Borrow(shared(3));
     let of_borrowed = opaque(alloc, &[Some(5)], false, shared(9))?;
     let slice: Slice<hir_types::OutputOnly> = Slice::Opaque(held, of_borrowed);
-    assert_eq!(rt; slice.lifetime().copied(), Some(lifetime(Some(3))));
+    assert!(rt; slice.lifetime().copied() == Some(lifetime(Some(3))));
     Ok(())
 }

@@ -22,13 +22,10 @@ fn compare<S: StructPathLike>(
     owner: MaybeOwn,
     number: usize,
 ) {
-    assert_eq!(rt; path.id(), id);
-    assert_eq!(rt; seen(path.owner().as_borrowed()), seen(owner.as_borrowed()));
-    assert_eq!(rt; path.lifetimes().len(), 1);
-    assert_eq!(rt;
-        path.lifetimes().as_slice().first().copied(),
-        Some(lifetime(Some(number)))
-    );
+    assert!(rt; path.id() == id);
+    assert!(rt; seen(path.owner().as_borrowed()) == seen(owner.as_borrowed()));
+    assert!(rt; path.lifetimes().len() == 1);
+    assert!(rt; path.lifetimes().as_slice().first().copied() == Some(lifetime(Some(number))));
 }
 
 /// Compares what is asked of a path to the third opaque, held so.
@@ -38,10 +35,10 @@ fn compare_opaque(
     optional: bool,
     borrow: Option<(MaybeStatic<Lifetime>, bool)>,
 ) {
-    assert_eq!(rt; path.id(), TypeId::Opaque(OpaqueId::new(2)));
-    assert_eq!(rt; path.is_optional(), optional);
-    assert_eq!(rt; path.is_owned(), borrow.is_none());
-    assert_eq!(rt; seen(path.as_borrowed()), borrow);
+    assert!(rt; path.id() == TypeId::Opaque(OpaqueId::new(2)));
+    assert!(rt; path.is_optional() == optional);
+    assert!(rt; path.is_owned() == borrow.is_none());
+    assert!(rt; seen(path.as_borrowed()) == borrow);
 }
 
 #[test]
@@ -63,17 +60,11 @@ fn a_receiver_is_one_that_is_not_absent(rt: HostRuntime) {
         owner: shared(6),
         tcx_id: OpaqueId::new(9),
     };
-    assert_eq!(rt;
-        seen(Some(path.borrowed())),
-        Some((lifetime(Some(6)), false))
-    );
+    assert!(rt; seen(Some(path.borrowed())) == Some((lifetime(Some(6)), false)));
     let wrapped = path.wrap_optional();
-    assert_eq!(rt; (wrapped.is_optional(), wrapped.is_owned()), (false, false));
-    assert_eq!(rt; wrapped.id(), TypeId::Opaque(OpaqueId::new(9)));
-    assert_eq!(rt;
-        seen(Some(wrapped.borrowed())),
-        Some((lifetime(Some(6)), false))
-    );
+    assert!(rt; (wrapped.is_optional(), wrapped.is_owned()) == (false, false));
+    assert!(rt; wrapped.id() == TypeId::Opaque(OpaqueId::new(9)));
+    assert!(rt; seen(Some(wrapped.borrowed())) == Some((lifetime(Some(6)), false)));
 }
 
 #[test]
@@ -92,5 +83,5 @@ fn structs_have_lifetimes_ids_and_owners(rt: HostRuntime) -> Result<(), Fail> {
 
 #[test]
 fn enums_have_ids(rt: HostRuntime) {
-    assert_eq!(rt; enumeration().id(), TypeId::Enum(EnumId::new(0)));
+    assert!(rt; enumeration().id() == TypeId::Enum(EnumId::new(0)));
 }

@@ -19,20 +19,20 @@ fn takes<P: PositionTypes>(alloc: Global) -> (bool, bool, InputOrOutput) {
 fn callbacks_and_traits_come_in(rt: HostRuntime) {
     let alloc = rt.alloc();
     let everywhere = takes::<Everywhere>(alloc);
-    assert_eq!(rt; everywhere, (false, false, InputOrOutput::InputOutput));
+    assert!(rt; everywhere == (false, false, InputOrOutput::InputOutput));
     let outputs = takes::<OutputOnly>(alloc);
-    assert_eq!(rt; outputs, (false, false, InputOrOutput::Output));
+    assert!(rt; outputs == (false, false, InputOrOutput::Output));
     let inputs = takes::<InputOnly>(alloc);
-    assert_eq!(rt; inputs, (true, true, InputOrOutput::Input));
+    assert!(rt; inputs == (true, true, InputOrOutput::Input));
     let returns = takes::<CallbackReturn>(alloc);
-    assert_eq!(rt; returns, (false, true, InputOrOutput::Input));
+    assert!(rt; returns == (false, true, InputOrOutput::Input));
 }
 
 #[test]
 fn a_trait_is_built_as_it_was(rt: HostRuntime) {
     let built = CallbackReturn::build_trait_path(trait_path(rt.alloc()));
     let id = built.as_ref().map(|path| path.id());
-    assert_eq!(rt; id, Some(TraitId::new(5)));
+    assert!(rt; id == Some(TraitId::new(5)));
 }
 
 /// How much a callback takes, where there is one, and whether it says what it returns.
@@ -49,10 +49,10 @@ fn lends<P: PositionTypes>(callback: Option<&P::CallbackInstantiation>) -> bool 
 #[test]
 fn callbacks_say_what_they_take_and_return(rt: HostRuntime) {
     let callback = callback(rt.alloc());
-    assert_eq!(rt; asked(Some(&callback)), (Some(0), true));
+    assert!(rt; asked(Some(&callback)) == (Some(0), true));
     assert!(rt; lends::<InputOnly>(Some(&callback)));
-    assert_eq!(rt; asked::<Callback>(None), (None, false));
-    assert_eq!(rt; asked::<NoCallback>(None), (None, false));
+    assert!(rt; asked::<Callback>(None) == (None, false));
+    assert!(rt; asked::<NoCallback>(None) == (None, false));
 }
 
 #[test]

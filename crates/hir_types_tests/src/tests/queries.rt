@@ -26,18 +26,18 @@ fn compare(rt: &impl Abort, alloc: Global, ty: &OutType, row: &Row) -> Result<()
     tell(rt, &copy, row);
     let option: OutType = HirType::DiplomatOption(Boxed::new(alloc, copy)?);
     assert!(rt; option.is_option());
-    assert_eq!(rt; option.id(), None);
+    assert!(rt; option.id() == None);
     tell(rt, option.unwrap_option(), row);
     Ok(())
 }
 
 /// Compares what is asked of the type with the row.
 fn tell<P: TyPosition>(rt: &impl Abort, ty: &HirType<P>, row: &Row) {
-    assert_eq!(rt; ty.id(), row.id);
-    assert_eq!(rt; ty.is_option(), row.is_option);
-    assert_eq!(rt; ty.is_immutably_borrowed(), row.immutably);
-    assert_eq!(rt; ty.is_mutably_borrowed(), row.mutably);
-    assert_eq!(rt; ty.unwrap_option().id(), row.id);
+    assert!(rt; ty.id() == row.id);
+    assert!(rt; ty.is_option() == row.is_option);
+    assert!(rt; ty.is_immutably_borrowed() == row.immutably);
+    assert!(rt; ty.is_mutably_borrowed() == row.mutably);
+    assert!(rt; ty.unwrap_option().id() == row.id);
 }
 
 #[test]

@@ -18,14 +18,14 @@ struct Row {
 
 /// Compares what is asked of the receiver, and of the type that it is elsewhere, with the row.
 fn compare(rt: &impl Abort, receiver: SelfType, row: &Row) {
-    assert_eq!(rt; receiver.is_immutably_borrowed(), row.immutably);
-    assert_eq!(rt; receiver.is_mutably_borrowed(), row.mutably);
-    assert_eq!(rt; receiver.is_consuming(), row.consuming);
+    assert!(rt; receiver.is_immutably_borrowed() == row.immutably);
+    assert!(rt; receiver.is_mutably_borrowed() == row.mutably);
+    assert!(rt; receiver.is_consuming() == row.consuming);
     let ty: HirType<Everywhere> = HirType::from(receiver);
-    assert_eq!(rt; ty.id(), Some(row.id));
+    assert!(rt; ty.id() == Some(row.id));
     assert!(rt; !ty.is_option());
-    assert_eq!(rt; ty.is_immutably_borrowed(), row.immutably);
-    assert_eq!(rt; ty.is_mutably_borrowed(), row.mutably);
+    assert!(rt; ty.is_immutably_borrowed() == row.immutably);
+    assert!(rt; ty.is_mutably_borrowed() == row.mutably);
 }
 
 /// An opaque so borrowed.

@@ -23,11 +23,11 @@ struct Row {
 
 /// Compares what is asked of the success with the row.
 fn compare(rt: &impl Abort, success: &Success, row: &Row) {
-    assert_eq!(rt; success.is_write(), row.writes);
-    assert_eq!(rt; success.is_write_16(), row.writes_16);
-    assert_eq!(rt; success.write_primitive(), row.primitive);
-    assert_eq!(rt; success.is_unit(), row.unit);
-    assert_eq!(rt; success.as_type().is_some(), !row.writes && !row.unit);
+    assert!(rt; success.is_write() == row.writes);
+    assert!(rt; success.is_write_16() == row.writes_16);
+    assert!(rt; success.write_primitive() == row.primitive);
+    assert!(rt; success.is_unit() == row.unit);
+    assert!(rt; success.as_type().is_some() == (!row.writes && !row.unit));
 }
 
 /// How many types the return has.
@@ -49,10 +49,10 @@ fn names(
         let Some((first, others)) = rest.split_first() else {
             return Err(Fail::from("too many lifetimes"));
         };
-        assert_eq!(rt; lifetime.index(), *first);
+        assert!(rt; lifetime.index() == *first);
         rest = others;
     }
-    assert_eq!(rt; rest.len(), 0);
+    assert!(rt; rest.len() == 0);
     Ok(())
 }
 
@@ -124,13 +124,13 @@ fn nothing_is_returned_by_what_always_succeeds_without_a_value(rt: HostRuntime) 
     let number = SuccessType::OutType(HirType::Primitive(PrimitiveType::Char));
     let returned = infallible(number);
     assert!(rt; !returned.is_ffi_unit());
-    assert_eq!(rt; types_in(&returned), 1);
+    assert!(rt; types_in(&returned) == 1);
     let nullable: Returned = ReturnType::Nullable(SuccessType::Unit);
     assert!(rt; !nullable.is_ffi_unit());
     assert!(rt; nullable.success_type().is_unit());
     let fallible: Returned = ReturnType::Fallible(SuccessType::Unit, None);
     assert!(rt; !fallible.is_ffi_unit());
-    assert_eq!(rt; types_in(&fallible), 0);
+    assert!(rt; types_in(&fallible) == 0);
 }
 
 #[test]
@@ -138,7 +138,7 @@ fn a_return_names_its_lifetimes_in_order(rt: HostRuntime) -> Result<(), Fail> {
     let alloc = rt.alloc();
     let page = page(alloc, MaybeOwn::Borrow(shared(1)))?;
     let returned = ReturnType::Nullable(SuccessType::OutType(page));
-    assert_eq!(rt; types_in(&returned), 1);
+    assert!(rt; types_in(&returned) == 1);
     names_in_both(&rt, alloc, &returned, &[1, 4])
 }
 
@@ -148,6 +148,6 @@ fn a_return_names_the_lifetimes_of_its_error(rt: HostRuntime) -> Result<(), Fail
     let error = page(alloc, MaybeOwn::Borrow(shared(2)))?;
     let returned = ReturnType::Fallible(SuccessType::Unit, Some(error));
     assert!(rt; returned.success_type().is_unit());
-    assert_eq!(rt; types_in(&returned), 1);
+    assert!(rt; types_in(&returned) == 1);
     names_in_both(&rt, alloc, &returned, &[2, 4])
 }

@@ -19,13 +19,13 @@ fn held() -> MaybeOwn {
 /// Compares the slice's own lifetime, and all of it as a type, with these numbers, where none
 /// stands for `'static`.
 fn compare(rt: &impl Abort, slice: InSlice, own: Option<Option<usize>>, all: &[Option<usize>]) {
-    assert_eq!(rt; slice.lifetime().copied(), own.map(lifetime));
+    assert!(rt; slice.lifetime().copied() == own.map(lifetime));
     let mut rest = all;
     for found in HirType::Slice(slice).lifetimes() {
-        assert_eq!(rt; Some(found), rest.first().map(|number| lifetime(*number)));
+        assert!(rt; Some(found) == rest.first().map(|number| lifetime(*number)));
         rest = rest.get(1..).unwrap_or(&[]);
     }
-    assert_eq!(rt; rest.len(), 0);
+    assert!(rt; rest.len() == 0);
 }
 
 #[test]
