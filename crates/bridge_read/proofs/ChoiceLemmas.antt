@@ -1,5 +1,5 @@
 -- Whether something stands under one key of an object alone, as its members are counted one after the other.
-use Rattle.std.proofs.Common.{◌≡◌, ℕ, zero, suc, ◌+◌, ◌<◌, Bool, true, false, not, ◌||◌, List, [], ◌∷◌, length, get_or, take, Option, Some, None, option_and_then, is_some, Result, Ok, Err, String, Global, Ordering, Less, Equal, Greater, string_cmp, nat_cmp, is_eq, refl, sym, ap, ◌∙◌, bytes_eq, add-one, arith, if◌then◌else◌}
+use Rattle.std.proofs.Common.{◌≡◌, ℕ, suc, ◌<◌, Bool, true, false, not, ◌||◌, List, [], ◌∷◌, length, get_or, Option, Some, None, option_map, option_and_then, is_some, Result, Ok, Err, String, Global, Ordering, Less, Equal, Greater, string_cmp, nat_cmp, is_eq, refl, sym, ap, ◌∙◌, bytes_eq, arith, if◌then◌else◌}
 use Rattle.std.proofs.lemmas.Map.Text.{is_eq-slice_cmp}
 use Rattle.std.proofs.lemmas.Slice.Eq.{bytes_eq-Decides}
 use Rattle.std.specs.Cmp.Lexicographic.{slice_cmp}
@@ -18,40 +18,41 @@ use Rattle.bridge_read.specs.declared.fault.ReadFault.TheVariants.{Bad, NoMemory
 use Rattle.bridge_read.specs.Keys.{key_text}
 use Rattle.bridge_read.specs.inside.Choices.{Tally, and_if, and_one, key_called, key_or_unknown, tallied, tally_of}
 use Rattle.bridge_read.specs.inside.Given.{Stops}
-use Rattle.bridge_read.specs.inside.Left.{are_apart}
+use Rattle.bridge_read.specs.inside.Left.{are_apart, key_number}
 use Rattle.bridge_read.specs.Form.{add_live, live, members_in, sole}
 use Rattle.bridge_read.specs.Reading.{◌>>=◌, here, is_one_of, known, not_null, only, under, unless_known}
 use Rattle.bridge_read.proofs.FieldLemmas.{AreDistinct, both, distinct, is_object, neither, none_of}
 
--- ---- the first key with a text, as a loop looks for it
+-- ---- the key with a text, by its number
 
-key_here : (b : Bool) (k : Key) (others : Option Key) → (if b then Some k else others) ≡ None → (b ≡ false) × (others ≡ None)
-key_here true k others e = absurd cc
-key_here false k others e = (refl, e)
+module _ (k : Key) (ks : List Key) (text : List ℕ) where
+  within_case : (b : Bool) (o : Option ℕ) (n : ℕ) → ((m : ℕ) → o ≡ Some m → m < length ks) → (if b then Some 0 else option_map (λ n. suc n) o) ≡ Some n → n < suc (length ks)
+  within_case true o n inner e = let is : n ≡ 0 = cc in rw is (omega arith)
+  within_case false None n inner e = absurd cc
+  within_case false (Some m) n inner e = let is : n ≡ suc m = cc in let lt = inner m refl in rw is (omega (arith, lt))
 
-called_at : (ks : List Key) (i : ℕ) (d : Key) (text : List ℕ) → i < length ks → key_called (take i ks) text ≡ None
-    → bytes_eq (key_text (get_or ks i d)) text ≡ true → key_called ks text ≡ Some (get_or ks i d)
-called_at [] i d text lt before e = absurd (omega arith)
-called_at (k ∷ ks) zero d text lt before e = rw e refl
-called_at (k ∷ ks) (suc i) d text lt before e =
-    let h = key_here (bytes_eq (key_text k) text) k (key_called (take i ks) text) before in
-    rw h.0 (called_at ks i d text (omega arith) h.1 e)
+  called_case : (b : Bool) (o : Option ℕ) (n : ℕ) (d : Key) → ((m : ℕ) → o ≡ Some m → key_called ks text ≡ Some (get_or ks m d)) → (if b then Some 0 else option_map (λ n. suc n) o) ≡ Some n
+      → (if b then Some k else key_called ks text) ≡ Some (get_or (k ∷ ks) n d)
+  called_case true o n d inner e = let is : n ≡ 0 = cc in rw is refl
+  called_case false None n d inner e = absurd cc
+  called_case false (Some m) n d inner e = let is : n ≡ suc m = cc in rw is (inner m refl)
 
-not_called : (ks : List Key) (i : ℕ) (d : Key) (text : List ℕ) → i < length ks → key_called (take i ks) text ≡ None
-    → bytes_eq (key_text (get_or ks i d)) text ≡ false → key_called (take (suc i) ks) text ≡ None
-not_called [] i d text lt before e = absurd (omega arith)
-not_called (k ∷ ks) zero d text lt before e = rw e refl
-not_called (k ∷ ks) (suc i) d text lt before e =
-    let h = key_here (bytes_eq (key_text k) text) k (key_called (take i ks) text) before in
-    rw h.0 (not_called ks i d text (omega arith) h.1 e)
+  not_called_case : (b : Bool) (o : Option ℕ) → (o ≡ None → key_called ks text ≡ None) → (if b then Some 0 else option_map (λ n. suc n) o) ≡ None → (if b then Some k else key_called ks text) ≡ None
+  not_called_case true o inner e = absurd cc
+  not_called_case false None inner e = inner refl
+  not_called_case false (Some m) inner e = absurd cc
 
-pub called_here : (ks : List Key) (i : ℕ) (d : Key) (written text : List ℕ) → i < length ks → key_called (take i ks) text ≡ None
-    → written ≡ key_text (get_or ks i d) → bytes_eq written text ≡ true → key_called ks text ≡ Some (get_or ks i d)
-called_here ks i d written text lt before named e = called_at ks i d text lt before (rw (← named) e)
+pub number_within : (ks : List Key) (text : List ℕ) (n : ℕ) → key_number ks text ≡ Some n → n < length ks
+number_within [] text n e = absurd cc
+number_within (k ∷ ks) text n e = within_case k ks text (bytes_eq (key_text k) text) (key_number ks text) n (λ m is. number_within ks text m is) e
 
-pub not_called_yet : (ks : List Key) (i : ℕ) (d : Key) (written text : List ℕ) → i < length ks → key_called (take i ks) text ≡ None
-    → written ≡ key_text (get_or ks i d) → bytes_eq written text ≡ false → key_called (take (i + 1) ks) text ≡ None
-not_called_yet ks i d written text lt before named e = rw add-one (not_called ks i d text lt before (rw (← named) e))
+pub called_at : (ks : List Key) (text : List ℕ) (n : ℕ) (d : Key) → key_number ks text ≡ Some n → key_called ks text ≡ Some (get_or ks n d)
+called_at [] text n d e = absurd cc
+called_at (k ∷ ks) text n d e = called_case k ks text (bytes_eq (key_text k) text) (key_number ks text) n d (λ m is. called_at ks text m d is) e
+
+pub not_called : (ks : List Key) (text : List ℕ) → key_number ks text ≡ None → key_called ks text ≡ None
+not_called [] text e = refl
+not_called (k ∷ ks) text e = not_called_case k ks text (bytes_eq (key_text k) text) (key_number ks text) (λ is. not_called ks text is) e
 
 -- ---- tallies
 

@@ -8,11 +8,12 @@ ghost use Rattle.serde_json.specs.View.{view, members_view};
 ghost use Rattle.bridge_read.specs.declared.keys.Key.{Key as Name};
 ghost use Rattle.bridge_read.specs.Form.{live, sole};
 ghost use Rattle.bridge_read.specs.Reading.{not_null};
-ghost use Rattle.bridge_read.specs.inside.Choices.{Chooses, IsChoice, and_if, key_called, shown, tallied};
+ghost use Rattle.bridge_read.specs.inside.Choices.{Chooses, IsChoice, and_if, key_called, tally_seen, tallied};
 ghost use Rattle.bridge_read.specs.inside.Given.{GivesBy};
 ghost use Rattle.bridge_read.specs.inside.Left.{are_apart};
 
 use crate::fault::{Fault, ReadFault};
+use crate::fields::key_number;
 use crate::keys::Key;
 use crate::objects::members;
 use serde_json::{Map, Value};
@@ -42,7 +43,7 @@ impl Choice {
 
     /// With what stands under one key more, unless that is null.
     fn with(self, key: Key, value: Value) -> Choice
-        ensures { shown result ≡ and_if (shown self) key (not_null (view value)) }
+        ensures { tally_seen result ≡ and_if (tally_seen self) key (not_null (view value)) }
     {
         if value.is_null() {
             return self;
@@ -67,15 +68,14 @@ impl Choice {
 }
 
 /// The key of that name.
+#[tactic(auto, using(crate::proofs::ChoiceLemmas::number_within, crate::proofs::ChoiceLemmas::called_at, crate::proofs::ChoiceLemmas::not_called))]
 fn key_called(form: &[Key], name: &str) -> Option<Key>
     ensures { result ≡ key_called form.now name.now }
 {
-    for key in form {
-        if key.text() == name {
-            return Some(*key);
-        }
+    match key_number(form, name) {
+        Some(number) => Some(form[number]),
+        None => None,
     }
-    None
 }
 
 /// What stands in the object of these members; the fault of the first whose key is none of these.
@@ -84,7 +84,7 @@ fn choice_in(
     form: &[Key],
     mut members: Map<String, Value>,
 ) -> Result<Choice, ReadFault>
-    ensures told { GivesBy shown result
+    ensures told { GivesBy tally_seen result
         (tallied form.now (Some None) (members_view members.entries)) }
     ensures ordered { IsStrictlySortedBy string_cmp (keys members) }
 {

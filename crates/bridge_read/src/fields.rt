@@ -182,7 +182,7 @@ fn take(members: &mut Vec<Member>, number: usize) -> Option<Value>
 }
 
 /// The number of the key of that name.
-fn key_number(keys: &[Key], name: &str) -> Option<usize>
+pub fn key_number(keys: &[Key], name: &str) -> Option<usize>
     ensures { result ≡ key_number keys.now name.now }
 {
     for (number, key) in keys.iter().enumerate() {

@@ -19,10 +19,10 @@ use Rattle.bridge_read.specs.inside.Given.{Stops}
 abbrev pub Tally : Type 0
 Tally = Option (Option (Key × Data))
 
-abbrev pub shown : Choice → Tally
-shown chosen.Nothing = Some None
-shown (chosen.One key value) = Some (Some (key, view value))
-shown chosen.More = None
+abbrev pub tally_seen : Choice → Tally
+tally_seen chosen.Nothing = Some None
+tally_seen (chosen.One key value) = Some (Some (key, view value))
+tally_seen chosen.More = None
 
 -- one more
 abbrev pub and_one : Tally → Key × Data → Tally
@@ -57,7 +57,7 @@ tallied keys tally (member text d ms) = key_or_unknown (key_called keys text) te
 
 -- what stands in the object is this
 unfoldable pub IsChoice : Choice → List Key → Data → Type 0
-IsChoice choice keys d = tally_of (live keys d) ≡ shown choice
+IsChoice choice keys d = tally_of (live keys d) ≡ tally_seen choice
 
 -- what stands in an object that has no other keys; another value is refused
 abbrev pub Chooses : Result Choice ReadFault → List Key → Data → Type 0
