@@ -4,12 +4,12 @@ use Rattle.std.proofs.lemmas.List.{length-map}
 use Rattle.serde_json.specs.Data.{Data, null, boolean, number, string, array, object, Items, no_items, item}
 use Rattle.bridge_decl.specs.declared.modules.Module.{Module}
 use Rattle.bridge_read.specs.declared.input.Declared.{Declared}
-use Rattle.bridge_read.specs.declared.keys.Key.TheVariants as key
+use Rattle.bridge_form.specs.declared.keys.Key.TheVariants as key
 use Rattle.bridge_read.specs.declared.modules.Contents.{Contents}
-use Rattle.bridge_read.specs.declared.pointer.Step.TheVariants.{Index}
-use Rattle.bridge_read.specs.Form.{Form, Each, IsList, NeededAt, HeldAt}
+use Rattle.bridge_form.specs.declared.pointer.Step.TheVariants.{Index}
+use Rattle.bridge_form.specs.Form.{Form, Each, IsList, NeededAt, HeldAt}
 use Rattle.bridge_read.specs.Pointers.{in_entries, in_modules, in_root, items_of, module_pointers, modules_within}
-use Rattle.bridge_read.specs.Reading.{at_key, under}
+use Rattle.bridge_form.specs.Reading.{at_key, under}
 use Rattle.bridge_read.specs.forms.Inputs.{no_backend, whole}
 use Rattle.bridge_read.specs.forms.Modules.{any_text, contents, in_a_row, module_of, module_within, nested_in, path_in, root}
 use Rattle.bridge_read.specs.forms.Settings.{backend, config, no_config, urls, no_urls}

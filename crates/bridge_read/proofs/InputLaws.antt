@@ -12,7 +12,7 @@ use Rattle.bridge_ast.specs.Sound.{AreSound}
 use Rattle.bridge_ast.proofs.FittingLemmas.{order_of_sound}
 use Rattle.bridge_ast.proofs.SoundLemmas.{clean_from}
 use Rattle.bridge_decl.specs.declared.modules.Module.{Module}
-use Rattle.bridge_read.specs.declared.fault.Fault.{Fault}
+use Rattle.bridge_form.specs.declared.fault.Fault.{Fault}
 use Rattle.bridge_read.specs.declared.input.Declared.{Declared}
 use Rattle.bridge_read.specs.declared.input.Input.{Input}
 use Rattle.bridge_read.specs.declared.input.InputFault.{InputFault}
@@ -20,7 +20,7 @@ use Rattle.bridge_read.specs.declared.input.InputFault.TheVariants.{NotDeclarati
 use Rattle.bridge_read.specs.inside.Answers.{GivesForm, GivesEnv, IsNoJson}
 use Rattle.bridge_read.specs.Inputs.{IsJsonOf, SpellsInput, IsFirstFault, IsToldOf, IsReadAs, Refuses, IsFirstOf, IsToldAs, declared_fault, faults_between, told_in}
 use Rattle.bridge_read.specs.forms.Inputs.{declared_of, whole}
-use Rattle.bridge_read.proofs.FormLaws.{Begins}
+use Rattle.bridge_form.proofs.FormLaws.{Begins}
 use Rattle.bridge_read.proofs.forms.Inputs.{whole_lawful}
 
 abbrev given : {A : Type 0} → A → Option A

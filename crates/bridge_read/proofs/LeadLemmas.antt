@@ -5,16 +5,16 @@ use Rattle.serde_json.specs.Data.{Data, null, boolean, number, string, array, ob
 use Rattle.serde_json.specs.Find.{get, get_item}
 use Rattle.bridge_decl.specs.declared.modules.Module.{Module}
 use Rattle.bridge_read.specs.declared.input.Declared.{Declared}
-use Rattle.bridge_read.specs.declared.keys.Key.{Key}
-use Rattle.bridge_read.specs.declared.keys.Key.TheVariants as key
+use Rattle.bridge_form.specs.declared.keys.Key.{Key}
+use Rattle.bridge_form.specs.declared.keys.Key.TheVariants as key
 use Rattle.bridge_read.specs.declared.modules.Contents.{Contents}
-use Rattle.bridge_read.specs.declared.pointer.Step.{Step}
-use Rattle.bridge_read.specs.declared.pointer.Step.TheVariants.{Index}
-use Rattle.bridge_read.specs.Form.{Form, Each, IsList, NeededAt, HeldAt, list}
-use Rattle.bridge_read.specs.Keys.{key_text}
+use Rattle.bridge_form.specs.declared.pointer.Step.{Step}
+use Rattle.bridge_form.specs.declared.pointer.Step.TheVariants.{Index}
+use Rattle.bridge_form.specs.Form.{Form, Each, IsList, NeededAt, HeldAt, list}
+use Rattle.bridge_form.specs.Keys.{key_text}
 use Rattle.bridge_read.specs.ModulePlaces.{leads_to, SpellsContents, LeadsTo}
 use Rattle.bridge_read.specs.Pointers.{in_entries, in_modules, in_root, items_of, module_pointers, modules_within}
-use Rattle.bridge_read.specs.Reading.{at_key, not_null, under}
+use Rattle.bridge_form.specs.Reading.{at_key, not_null, under}
 use Rattle.bridge_read.specs.forms.Attrs.{attrs, no_attrs}
 use Rattle.bridge_read.specs.forms.Inputs.{no_backend, whole}
 use Rattle.bridge_read.specs.forms.Items.{item_form}

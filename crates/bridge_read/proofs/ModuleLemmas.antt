@@ -3,12 +3,13 @@ use Rattle.std.proofs.Common.{◌≡◌, ℕ, List, ◌++◌, Result, Option, So
 use Rattle.std.specs.Prelude.{option_and_then}
 use Rattle.serde_json.specs.Data.{Data, null, boolean, number, string, array, object, Items}
 use Rattle.serde_json.specs.Find.{as_str}
-use Rattle.bridge_read.specs.declared.fault.Fault.{Fault}
-use Rattle.bridge_read.specs.declared.fault.ReadFault.{ReadFault}
-use Rattle.bridge_read.specs.declared.fault.ReadFault.TheVariants.{Bad, NoMemory}
-use Rattle.bridge_read.specs.declared.keys.Key.TheVariants as key
-use Rattle.bridge_read.specs.Reading.{◌>>=◌, each_of, needed_of, text_of, under}
-use Rattle.bridge_read.specs.inside.Given.{Stops, needed}
+use Rattle.bridge_form.specs.declared.fault.Fault.{Fault}
+use Rattle.bridge_form.specs.declared.fault.ReadFault.{ReadFault}
+use Rattle.bridge_form.specs.declared.fault.ReadFault.TheVariants.{Bad, NoMemory}
+use Rattle.bridge_form.specs.declared.keys.Key.TheVariants as key
+use Rattle.bridge_form.specs.Reading.{◌>>=◌, each_of, needed_of, text_of, under}
+use Rattle.bridge_form.specs.Given.{Stops}
+use Rattle.bridge_read.specs.inside.Taking.{needed}
 use Rattle.bridge_read.specs.forms.Modules.{any_text, in_a_row, name_of, or_empty}
 
 -- the modules that were read, followed by those that are read of the entries that are left

@@ -25,11 +25,11 @@ use Rattle.bridge_ast.specs.EnvFaults.{Named, aliases_named, items_named, named_
 use Rattle.bridge_decl.specs.Names.{item_name}
 use Rattle.bridge_ast.proofs.PathLemmas.{parent_and_last-snoc, path_itself}
 use Rattle.bridge_read.specs.declared.input.Declared.{Declared}
-use Rattle.bridge_read.specs.declared.keys.Key.TheVariants as key
+use Rattle.bridge_form.specs.declared.keys.Key.TheVariants as key
 use Rattle.bridge_read.specs.declared.modules.Contents.{Contents}
-use Rattle.bridge_read.specs.Form.{Each, IsList, NeededAt, HeldAt}
+use Rattle.bridge_form.specs.Form.{Each, IsList, NeededAt, HeldAt}
 use Rattle.bridge_read.specs.Parents.{LacksParent}
-use Rattle.bridge_read.specs.Reading.{under}
+use Rattle.bridge_form.specs.Reading.{under}
 use Rattle.bridge_read.specs.forms.Inputs.{no_backend, whole}
 use Rattle.bridge_read.specs.forms.Modules.{any_text, contents, in_a_row, module_of, module_within, name_of, nested_in, path_in, root}
 use Rattle.bridge_read.specs.forms.Settings.{backend, config, no_config, urls, no_urls}

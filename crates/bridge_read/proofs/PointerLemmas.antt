@@ -8,11 +8,11 @@ use Rattle.serde_json.specs.View.{view}
 use Rattle.serde_json.specs.declared.value.Value.{Value}
 use Rattle.bridge_read.specs.declared.places.Search.{Search}
 use Rattle.bridge_read.specs.declared.places.Search.TheVariants.{Found, Left}
-use Rattle.bridge_read.specs.declared.pointer.Step.{Step}
+use Rattle.bridge_form.specs.declared.pointer.Step.{Step}
 use Rattle.bridge_read.specs.inside.Places.{Searches}
-use Rattle.bridge_read.specs.declared.pointer.Step.TheVariants.{Index}
-use Rattle.bridge_read.specs.declared.keys.Key.TheVariants as key
-use Rattle.bridge_read.specs.Reading.{at_key, under}
+use Rattle.bridge_form.specs.declared.pointer.Step.TheVariants.{Index}
+use Rattle.bridge_form.specs.declared.keys.Key.TheVariants as key
+use Rattle.bridge_form.specs.Reading.{at_key, under}
 use Rattle.bridge_read.specs.Pointers.{in_entries, items_of, modules_within}
 
 -- ---- in lists

@@ -8,9 +8,9 @@ use Rattle.hir_backends.specs.declared.support.BackendAttrSupport.{BackendAttrSu
 use Rattle.hir_backends.specs.declared.support.flag.SupportFlag.{SupportFlag}
 use Rattle.hir_backends.specs.Support.{with_flag}
 use Rattle.serde_json.specs.Data.{Data, Members}
-use Rattle.bridge_read.specs.declared.fault.Fault.{Fault}
-use Rattle.bridge_read.specs.Reading.{◌>>=◌}
-use Rattle.bridge_read.specs.Form.{members_of}
+use Rattle.bridge_form.specs.declared.fault.Fault.{Fault}
+use Rattle.bridge_form.specs.Reading.{◌>>=◌}
+use Rattle.bridge_form.specs.Form.{members_of}
 use Rattle.bridge_read.specs.forms.Settings.{turned_on, entered}
 
 on_more : (support : BackendAttrSupport) (flags : List SupportFlag) (last : SupportFlag) → turned_on support (flags ++ last ∷ []) ≡ with_flag (turned_on support flags) last

@@ -1,6 +1,6 @@
 -- Looking for a word among others, as a loop does.
 use Rattle.std.proofs.Common.{◌≡◌, ℕ, zero, suc, ◌+◌, ◌<◌, Bool, true, false, List, [], ◌∷◌, map, length, get_or, take, Option, Some, None, refl, bytes_eq, add-one, arith, if◌then◌else◌}
-use Rattle.bridge_read.specs.Form.{find_word}
+use Rattle.bridge_form.specs.Form.{find_word}
 
 not_here : {W : Type 0} (b : Bool) (word : W) (others : Option W) → (if b then Some word else others) ≡ None → (b ≡ false) × (others ≡ None)
 not_here true word others e = absurd cc

@@ -2,7 +2,7 @@
 use Rattle.std.specs.Prelude.{◌≡◌, ℕ, ◌+◌, ◌≤◌, List}
 use Rattle.serde_json.specs.Data.{Data, depth}
 use Rattle.serde_json.specs.Read.{max_depth}
-use Rattle.bridge_read.specs.Form.{Form}
+use Rattle.bridge_form.specs.Form.{Form}
 use Rattle.bridge_read.specs.forms.Attrs.{condition_within}
 use Rattle.bridge_read.specs.forms.Modules.{nested_in}
 use Rattle.bridge_read.specs.forms.Types.{type_within}

@@ -9,16 +9,17 @@ use Rattle.bridge_ast.specs.declared.fault.EnvFault.{EnvFault}
 use Rattle.bridge_ast.specs.declared.fault.EnvFault.TheVariants.{Bad, NoMemory as no_env_memory}
 use Rattle.bridge_ast.specs.declared.fault.EnvFaultKind.{EnvFaultKind}
 use Rattle.bridge_ast.specs.declared.fault.EnvFaultKind.TheVariants as env
-use Rattle.bridge_read.specs.declared.fault.Fault.{Fault}
-use Rattle.bridge_read.specs.declared.fault.InputKind.{InputKind}
-use Rattle.bridge_read.specs.declared.fault.InputKind.TheVariants as kind
+use Rattle.bridge_form.specs.declared.fault.Fault.{Fault}
+use Rattle.bridge_form.specs.declared.fault.InputKind.{InputKind}
+use Rattle.bridge_form.specs.declared.fault.InputKind.TheVariants as kind
 use Rattle.bridge_read.specs.declared.input.Declared.{Declared}
 use Rattle.bridge_ast.specs.declared.fault.EnvPlace.{EnvPlace}
 use Rattle.bridge_read.specs.declared.input.Input.{Input}
 use Rattle.bridge_read.specs.declared.input.InputFault.{InputFault}
 use Rattle.bridge_read.specs.declared.input.InputFault.TheVariants.{NotDeclarations, NoMemory}
-use Rattle.bridge_read.specs.Reading.{here}
-use Rattle.bridge_read.specs.Pointers.{module_pointers, place_steps, pointer_text}
+use Rattle.bridge_form.specs.Reading.{here}
+use Rattle.bridge_form.specs.PointerTexts.{pointer_text}
+use Rattle.bridge_read.specs.Pointers.{module_pointers, place_steps}
 use Rattle.bridge_read.specs.forms.Inputs.{declared_of, whole}
 
 -- the bytes are a JSON text (RFC 8259) in UTF-8 that nests at most 127 deep and whose numbers are within a 64-bit float's range,

@@ -1,11 +1,8 @@
 pub mod Agree
-pub mod Form
 pub mod Inputs
-pub mod Keys
 pub mod ModulePlaces
 pub mod Parents
 pub mod Pointers
-pub mod Reading
 pub mod TruePlaces
 pub mod Words
 pub mod forms

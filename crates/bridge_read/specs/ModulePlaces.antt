@@ -3,12 +3,12 @@ use Rattle.std.specs.Prelude.{◌≡◌, ℕ, List, [], ◌∷◌, ◌⊎◌, Op
 use Rattle.serde_json.specs.Data.{Data}
 use Rattle.serde_json.specs.Find.{get, at}
 use Rattle.bridge_decl.specs.declared.modules.Module.{Module}
-use Rattle.bridge_read.specs.declared.keys.Key.TheVariants as key
+use Rattle.bridge_form.specs.declared.keys.Key.TheVariants as key
 use Rattle.bridge_read.specs.declared.modules.Contents.{Contents}
-use Rattle.bridge_read.specs.declared.pointer.Step.{Step}
-use Rattle.bridge_read.specs.declared.pointer.Step.TheVariants.{Member, Index}
-use Rattle.bridge_read.specs.Form.{HeldAt, list}
-use Rattle.bridge_read.specs.Reading.{under}
+use Rattle.bridge_form.specs.declared.pointer.Step.{Step}
+use Rattle.bridge_form.specs.declared.pointer.Step.TheVariants.{Member, Index}
+use Rattle.bridge_form.specs.Form.{HeldAt, list}
+use Rattle.bridge_form.specs.Reading.{under}
 use Rattle.bridge_read.specs.forms.Attrs.{attrs, no_attrs}
 use Rattle.bridge_read.specs.forms.Items.{item_form}
 use Rattle.bridge_read.specs.forms.Modules.{alias, path_in}

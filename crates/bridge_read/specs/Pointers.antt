@@ -1,33 +1,14 @@
--- JSON pointers (RFC 6901), and where the modules of an input and their parts stand in it.
-use Rattle.std.specs.Prelude.{ℕ, zero, suc, ◌+◌, List, [], ◌∷◌, ◌++◌, map, codes, decimal, nat_eq, slice_index_or, if◌then◌else◌, Option, Some, None}
-use Rattle.std.specs.Char.{encode_utf8}
-use Rattle.std.specs.List.{flat_map}
-use Rattle.std.specs.Str.{chars}
+-- Where the modules of an input and their parts stand in it.
+use Rattle.std.specs.Prelude.{ℕ, zero, suc, ◌+◌, List, [], ◌∷◌, ◌++◌, map, slice_index_or, Option, Some, None}
 use Rattle.serde_json.specs.Data.{Data, null, boolean, number, string, array, object, Items, no_items, item}
 use Rattle.bridge_ast.specs.declared.fault.EnvPart.{EnvPart}
 use Rattle.bridge_ast.specs.declared.fault.EnvPart.TheVariants as part
 use Rattle.bridge_ast.specs.declared.fault.EnvPlace.{EnvPlace}
-use Rattle.bridge_read.specs.declared.keys.Key.{Key}
-use Rattle.bridge_read.specs.declared.keys.Key.TheVariants as key
-use Rattle.bridge_read.specs.declared.pointer.Step.{Step}
-use Rattle.bridge_read.specs.declared.pointer.Step.TheVariants.{Member, Index}
-use Rattle.bridge_read.specs.Reading.{at_key, under}
-
--- ---- the text of a pointer
-
--- a character as a pointer writes it: `~` as `~0`, `/` as `~1`, any other as it is
-abbrev pub escaped : ℕ → List ℕ
-escaped c = if nat_eq c 126 then codes "~0" else (if nat_eq c 47 then codes "~1" else encode_utf8 c)
-
-abbrev pub escaped_text : List ℕ → List ℕ
-escaped_text text = flat_map escaped (chars text)
-
-abbrev pub step_text : Step → List ℕ
-step_text (Member name) = codes "/" ++ escaped_text name
-step_text (Index n) = codes "/" ++ decimal n
-
-abbrev pub pointer_text : List Step → List ℕ
-pointer_text steps = flat_map step_text steps
+use Rattle.bridge_form.specs.declared.keys.Key.{Key}
+use Rattle.bridge_form.specs.declared.keys.Key.TheVariants as key
+use Rattle.bridge_form.specs.declared.pointer.Step.{Step}
+use Rattle.bridge_form.specs.declared.pointer.Step.TheVariants.{Index}
+use Rattle.bridge_form.specs.Reading.{at_key, under}
 
 -- ---- where modules stand
 

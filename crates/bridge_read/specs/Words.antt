@@ -4,8 +4,6 @@ use Rattle.bridge_decl.specs.declared.types.PrimitiveType.{PrimitiveType}
 use Rattle.bridge_decl.specs.declared.types.PrimitiveType.TheVariants as primitive
 use Rattle.bridge_decl.specs.declared.types.StringEncoding.{StringEncoding}
 use Rattle.bridge_decl.specs.declared.types.StringEncoding.TheVariants as encoding
-use Rattle.bridge_read.specs.declared.fault.InputKind.{InputKind}
-use Rattle.bridge_read.specs.declared.fault.InputKind.TheVariants as input
 use Rattle.bridge_read.specs.declared.words.ItemKind.{ItemKind}
 use Rattle.bridge_read.specs.declared.words.ItemKind.TheVariants as item
 use Rattle.bridge_decl.specs.declared.docs.DocType.{DocType}
@@ -88,15 +86,3 @@ item_kind_words =
     (codes "trait", item.Trait) ∷
     (codes "function", item.Function) ∷
     []
-
--- the words for a kind of fault
-unfoldable pub kind_text : InputKind → List ℕ
-kind_text input.NotJson = codes "not JSON"
-kind_text input.UnknownKey = codes "unknown key"
-kind_text input.MissingKey = codes "missing key"
-kind_text input.WrongForm = codes "wrong form"
-kind_text input.DuplicateModule = codes "duplicate module"
-kind_text input.DuplicateItem = codes "duplicate item"
-kind_text input.DuplicateLifetime = codes "duplicate lifetime"
-kind_text input.BoundOutOfRange = codes "bound out of range"
-kind_text input.BoundOneSided = codes "bound one-sided"

@@ -3,20 +3,18 @@
 ghost use Rattle.std.specs.Prelude.{◌≡◌, None, Some};
 ghost use Rattle.std.specs.Str.{all_ascii_digits};
 ghost use Rattle.serde_json.specs.View.{view};
-ghost use Rattle.bridge_read.specs.Reading.{list_of};
-ghost use Rattle.bridge_read.specs.inside.Given.{Gives};
+ghost use Rattle.bridge_form.specs.Reading.{list_of};
+ghost use Rattle.bridge_form.specs.Given.{Gives};
 ghost use Rattle.bridge_read.specs.forms.Attrs.{condition_called, condition_keys, condition_under, condition_within, condition_word, argument_of, digits, literal_called, literal_keys, literal_under, literal_word, no_attrs, sole_char};
 
-use crate::choice::Choice;
-use crate::fault::ReadFault;
-use crate::fields::Fields;
-use crate::keys::Key;
-use crate::objects::{in_entry, in_member};
-use crate::reading::{FromForm, entries, room_for, text, two};
+use crate::reading::{
+    FromForm, entries, held, listed, needed, needed_some, optional, room_for, text, two,
+};
 use bridge_ast::{
     Assign, Attrs, Boxed, DiplomatBackendAttr, DiplomatBackendAttrCfg, Items, Lit, Meta, MetaValue,
     RenameAttr, RenameFault, Text,
 };
+use bridge_form::{Choice, Fields, Key, ReadFault, in_entry, in_member};
 use serde_json::Value;
 use std::alloc::Global;
 
@@ -88,7 +86,7 @@ fn condition_under(
 
 /// A condition in which conditions nest at most so deep.
 #[cycle(conditions)]
-#[tactic(auto, unfolding(crate::specs::inside::Left::are_apart, crate::specs::Keys::key_text))]
+#[tactic(auto, unfolding(bridge_form::specs::Left::are_apart, bridge_form::specs::Keys::key_text))]
 fn condition_within(
     alloc: Global,
     value: Value,
@@ -208,7 +206,7 @@ fn literal_keys() -> &'static [Key]
     ]
 }
 
-#[tactic(auto, unfolding(crate::specs::forms::Attrs::literal, crate::specs::inside::Left::are_apart, crate::specs::Keys::key_text))]
+#[tactic(auto, unfolding(crate::specs::forms::Attrs::literal, bridge_form::specs::Left::are_apart, bridge_form::specs::Keys::key_text))]
 impl FromForm for Lit {
     ghost use Rattle.bridge_read.specs.forms.Attrs.{literal};
 
@@ -223,7 +221,7 @@ impl FromForm for Lit {
     }
 }
 
-#[tactic(auto, unfolding(crate::specs::forms::Attrs::assign, crate::specs::inside::Left::are_apart, crate::specs::Keys::key_text))]
+#[tactic(auto, unfolding(crate::specs::forms::Attrs::assign, bridge_form::specs::Left::are_apart, bridge_form::specs::Keys::key_text))]
 impl FromForm for Assign {
     ghost use Rattle.bridge_read.specs.forms.Attrs.{assign};
 
@@ -232,8 +230,8 @@ impl FromForm for Assign {
     fn from_form(alloc: Global, value: Value) -> Result<Assign, ReadFault> {
         let mut left = Fields::of(alloc, value, &[Key::Name, Key::Value])?;
         Ok(Assign {
-            name: left.needed(alloc)?,
-            value: left.needed(alloc)?,
+            name: needed(alloc, &mut left)?,
+            value: needed(alloc, &mut left)?,
         })
     }
 }
@@ -250,7 +248,7 @@ fn argument_of(value: Option<Lit>, list: Option<Items<Assign>>) -> Option<MetaVa
     }
 }
 
-#[tactic(auto, unfolding(crate::specs::forms::Attrs::mark, crate::specs::inside::Left::are_apart, crate::specs::Keys::key_text))]
+#[tactic(auto, unfolding(crate::specs::forms::Attrs::mark, bridge_form::specs::Left::are_apart, bridge_form::specs::Keys::key_text))]
 impl FromForm for DiplomatBackendAttr {
     ghost use Rattle.bridge_read.specs.forms.Attrs.{mark};
 
@@ -262,10 +260,10 @@ impl FromForm for DiplomatBackendAttr {
             value,
             &[Key::Condition, Key::Mark, Key::Value, Key::List],
         )?;
-        let cfg = left.needed(alloc)?;
-        let path = left.needed_some(alloc)?;
-        let literal = left.optional(alloc)?;
-        let assigns = left.optional(alloc)?;
+        let cfg = needed(alloc, &mut left)?;
+        let path = needed_some(alloc, &mut left)?;
+        let literal = optional(alloc, &mut left)?;
+        let assigns = optional(alloc, &mut left)?;
         match argument_of(literal, assigns) {
             Some(value) => Ok(DiplomatBackendAttr {
                 cfg,
@@ -291,7 +289,7 @@ impl FromForm for RenameAttr {
     }
 }
 
-#[tactic(auto, unfolding(crate::specs::forms::Attrs::attrs, crate::specs::inside::Left::are_apart, crate::specs::Keys::key_text))]
+#[tactic(auto, unfolding(crate::specs::forms::Attrs::attrs, bridge_form::specs::Left::are_apart, bridge_form::specs::Keys::key_text))]
 impl FromForm for Attrs {
     ghost use Rattle.bridge_read.specs.forms.Attrs.{attrs};
 
@@ -304,10 +302,10 @@ impl FromForm for Attrs {
             &[Key::Features, Key::Marks, Key::AbiRename, Key::Deprecated],
         )?;
         Ok(Attrs {
-            features: left.listed(alloc)?,
-            marks: left.listed(alloc)?,
-            abi_rename: left.held(alloc, RenameAttr::empty())?,
-            deprecated: left.optional(alloc)?,
+            features: listed(alloc, &mut left)?,
+            marks: listed(alloc, &mut left)?,
+            abi_rename: held(alloc, &mut left, RenameAttr::empty())?,
+            deprecated: optional(alloc, &mut left)?,
         })
     }
 }

@@ -2,21 +2,20 @@
 
 ghost use Rattle.std.specs.Prelude.{◌≡◌, ◌∷◌, List};
 ghost use Rattle.serde_json.specs.Data.{Data};
-ghost use Rattle.bridge_read.specs.declared.keys.Key.{Key as Name};
-ghost use Rattle.bridge_read.specs.Form.{read_alone};
+ghost use Rattle.bridge_form.specs.declared.keys.Key.{Key as Name};
+ghost use Rattle.bridge_form.specs.Form.{read_alone};
 ghost use Rattle.bridge_read.specs.forms.Docs.{no_docs, documented};
-ghost use Rattle.bridge_read.specs.inside.Left.{IsLeft, Takes};
+ghost use Rattle.bridge_form.specs.Left.{IsLeft};
+ghost use Rattle.bridge_read.specs.inside.Taking.{Takes};
 
 use crate::attrs::no_attrs;
-use crate::fault::ReadFault;
-use crate::fields::Fields;
-use crate::keys::Key;
-use crate::reading::FromForm;
+use crate::reading::{FromForm, held, listed, needed};
 use bridge_ast::{Attrs, DocBlock, Docs, Items, RustLink};
+use bridge_form::{Fields, Key, ReadFault};
 use serde_json::Value;
 use std::alloc::Global;
 
-#[tactic(auto, unfolding(crate::specs::forms::Docs::block, crate::specs::inside::Left::are_apart, crate::specs::Keys::key_text))]
+#[tactic(auto, unfolding(crate::specs::forms::Docs::block, bridge_form::specs::Left::are_apart, bridge_form::specs::Keys::key_text))]
 impl FromForm for DocBlock {
     ghost use Rattle.bridge_read.specs.forms.Docs.{block};
 
@@ -25,13 +24,13 @@ impl FromForm for DocBlock {
     fn from_form(alloc: Global, value: Value) -> Result<DocBlock, ReadFault> {
         let mut left = Fields::of(alloc, value, &[Key::Condition, Key::Lines])?;
         Ok(DocBlock {
-            cfg: left.needed(alloc)?,
-            lines: left.needed(alloc)?,
+            cfg: needed(alloc, &mut left)?,
+            lines: needed(alloc, &mut left)?,
         })
     }
 }
 
-#[tactic(auto, unfolding(crate::specs::forms::Docs::link, crate::specs::inside::Left::are_apart, crate::specs::Keys::key_text))]
+#[tactic(auto, unfolding(crate::specs::forms::Docs::link, bridge_form::specs::Left::are_apart, bridge_form::specs::Keys::key_text))]
 impl FromForm for RustLink {
     ghost use Rattle.bridge_read.specs.forms.Docs.{link};
 
@@ -40,14 +39,14 @@ impl FromForm for RustLink {
     fn from_form(alloc: Global, value: Value) -> Result<RustLink, ReadFault> {
         let mut left = Fields::of(alloc, value, &[Key::Path, Key::Kind, Key::Display])?;
         Ok(RustLink {
-            path: left.needed(alloc)?,
-            typ: left.needed(alloc)?,
-            display: left.needed(alloc)?,
+            path: needed(alloc, &mut left)?,
+            typ: needed(alloc, &mut left)?,
+            display: needed(alloc, &mut left)?,
         })
     }
 }
 
-#[tactic(auto, unfolding(crate::specs::forms::Docs::docs, crate::specs::inside::Left::are_apart, crate::specs::Keys::key_text))]
+#[tactic(auto, unfolding(crate::specs::forms::Docs::docs, bridge_form::specs::Left::are_apart, bridge_form::specs::Keys::key_text))]
 impl FromForm for Docs {
     ghost use Rattle.bridge_read.specs.forms.Docs.{docs};
 
@@ -56,8 +55,8 @@ impl FromForm for Docs {
     fn from_form(alloc: Global, value: Value) -> Result<Docs, ReadFault> {
         let mut left = Fields::of(alloc, value, &[Key::Blocks, Key::Links])?;
         Ok(Docs {
-            blocks: left.listed(alloc)?,
-            links: left.listed(alloc)?,
+            blocks: listed(alloc, &mut left)?,
+            links: listed(alloc, &mut left)?,
         })
     }
 }
@@ -78,7 +77,7 @@ pub fn documented(alloc: Global, left: &mut Fields) -> Result<(Docs, Attrs), Rea
     ensures { (keys : List Name) (d : Data) → IsLeft left.old (Key.Docs ∷ Key.Attrs ∷ keys) d
         → Takes result (read_alone documented d) left.new keys d }
 {
-    let docs = left.held(alloc, no_docs(alloc))?;
-    let attrs = left.held(alloc, no_attrs(alloc))?;
+    let docs = held(alloc, left, no_docs(alloc))?;
+    let attrs = held(alloc, left, no_attrs(alloc))?;
     Ok((docs, attrs))
 }

@@ -6,9 +6,9 @@ ghost use Rattle.serde_json.specs.Data.{Data};
 ghost use Rattle.serde_json.specs.View.{view};
 ghost use Rattle.bridge_ast.specs.EnvFaults.{faults_of};
 ghost use Rattle.bridge_decl.specs.declared.modules.Module.{Module as Declarations};
-ghost use Rattle.bridge_read.specs.declared.fault.Fault.{Fault as Wrong};
+ghost use Rattle.bridge_form.specs.declared.fault.Fault.{Fault as Wrong};
 ghost use Rattle.bridge_read.specs.declared.input.Declared.{Declared as Spelled};
-ghost use Rattle.bridge_read.specs.declared.pointer.Step.{Step as Way};
+ghost use Rattle.bridge_form.specs.declared.pointer.Step.{Step as Way};
 ghost use Rattle.bridge_read.specs.declared.input.Input.{Input as Given};
 ghost use Rattle.bridge_read.specs.declared.input.InputFault.TheVariants.{NoMemory as no_memory};
 ghost use Rattle.bridge_read.specs.Agree.{CutsNothing};
@@ -20,14 +20,11 @@ ghost use Rattle.bridge_read.specs.TruePlaces.{IsPlaced};
 ghost use Rattle.bridge_read.specs.forms.Inputs.{no_backend, whole};
 ghost use Rattle.bridge_read.specs.inside.Answers.{GivesEnv, GivesForm, IsNoJson};
 
-use crate::fault::{InputKind, ReadFault};
-use crate::fields::Fields;
-use crate::keys::Key;
 use crate::modules::ModuleList;
 use crate::places::place_pointer;
-use crate::pointer::Pointer;
-use crate::reading::FromForm;
+use crate::reading::{FromForm, held, needed};
 use bridge_ast::{Env, EnvFault, EnvFaultKind, EnvPlace, NoMemory, Text};
+use bridge_form::{Fields, InputKind, Key, Pointer, ReadFault};
 use hir_backends::BasicAttributeValidator;
 use hir_config::LoweringConfig;
 use hir_docs::DocsUrlGenerator;
@@ -89,7 +86,7 @@ fn no_backend(alloc: Global) -> Result<BasicAttributeValidator, NoMemory>
     BasicAttributeValidator::new(alloc, "")
 }
 
-#[tactic(auto, unfolding(crate::specs::forms::Inputs::whole, crate::specs::inside::Left::are_apart, crate::specs::Keys::key_text))]
+#[tactic(auto, unfolding(crate::specs::forms::Inputs::whole, bridge_form::specs::Left::are_apart, bridge_form::specs::Keys::key_text))]
 impl FromForm for Declared {
     ghost use Rattle.bridge_read.specs.forms.Inputs.{whole};
 
@@ -102,10 +99,10 @@ impl FromForm for Declared {
             &[Key::Root, Key::Backend, Key::Config, Key::Docs],
         )?;
         Ok(Declared {
-            modules: left.needed(alloc)?,
-            validator: left.held(alloc, no_backend(alloc)?)?,
-            config: left.held(alloc, LoweringConfig::default())?,
-            urls: left.held(alloc, DocsUrlGenerator::new(alloc))?,
+            modules: needed(alloc, &mut left)?,
+            validator: held(alloc, &mut left, no_backend(alloc)?)?,
+            config: held(alloc, &mut left, LoweringConfig::default())?,
+            urls: held(alloc, &mut left, DocsUrlGenerator::new(alloc))?,
         })
     }
 }

@@ -1,25 +1,23 @@
 //! Items, whose keys depend on their kind.
 
 ghost use Rattle.serde_json.specs.View.{view};
-ghost use Rattle.bridge_read.specs.Form.{object_with, one_word};
-ghost use Rattle.bridge_read.specs.inside.Given.{Gives, needed};
+ghost use Rattle.bridge_form.specs.Form.{object_with, one_word};
+ghost use Rattle.bridge_form.specs.Given.{Gives};
+ghost use Rattle.bridge_read.specs.inside.Taking.{needed};
 ghost use Rattle.bridge_read.specs.Words.{item_kind_words};
 ghost use Rattle.bridge_read.specs.forms.Items.{struct_parts, opaque_parts, enum_parts, trait_parts, function_parts};
 
 use crate::docs::documented;
-use crate::fault::ReadFault;
-use crate::fields::Fields;
-use crate::keys::Key;
 use crate::lifetimes::mutability;
 use crate::methods::{or_name, signed};
-use crate::objects::{in_member, object, under};
-use crate::reading::FromForm;
+use crate::reading::{FromForm, flag, listed, needed, optional};
 use crate::words::{ItemKind, one_word};
 use bridge_ast::{Enum, Field, Function, Item, LifetimeEnv, OpaqueType, Struct, Trait, Variant};
+use bridge_form::{Fields, Key, ReadFault, in_member, object, under};
 use serde_json::Value;
 use std::alloc::Global;
 
-#[tactic(auto, unfolding(crate::specs::forms::Items::field, crate::specs::forms::Docs::documented, crate::specs::inside::Left::are_apart, crate::specs::Keys::key_text))]
+#[tactic(auto, unfolding(crate::specs::forms::Items::field, crate::specs::forms::Docs::documented, bridge_form::specs::Left::are_apart, bridge_form::specs::Keys::key_text))]
 impl FromForm for Field {
     ghost use Rattle.bridge_read.specs.forms.Items.{field};
 
@@ -27,8 +25,8 @@ impl FromForm for Field {
 
     fn from_form(alloc: Global, value: Value) -> Result<Field, ReadFault> {
         let mut left = Fields::of(alloc, value, &[Key::Name, Key::Ty, Key::Docs, Key::Attrs])?;
-        let name = left.needed(alloc)?;
-        let ty = left.needed(alloc)?;
+        let name = needed(alloc, &mut left)?;
+        let ty = needed(alloc, &mut left)?;
         let (docs, attrs) = documented(alloc, &mut left)?;
         Ok(Field {
             name,
@@ -39,7 +37,7 @@ impl FromForm for Field {
     }
 }
 
-#[tactic(auto, unfolding(crate::specs::forms::Items::variant, crate::specs::forms::Docs::documented, crate::specs::inside::Left::are_apart, crate::specs::Keys::key_text))]
+#[tactic(auto, unfolding(crate::specs::forms::Items::variant, crate::specs::forms::Docs::documented, bridge_form::specs::Left::are_apart, bridge_form::specs::Keys::key_text))]
 impl FromForm for Variant {
     ghost use Rattle.bridge_read.specs.forms.Items.{variant};
 
@@ -51,8 +49,8 @@ impl FromForm for Variant {
             value,
             &[Key::Name, Key::Discriminant, Key::Docs, Key::Attrs],
         )?;
-        let name = left.needed(alloc)?;
-        let discriminant = left.needed(alloc)?;
+        let name = needed(alloc, &mut left)?;
+        let discriminant = needed(alloc, &mut left)?;
         let (docs, attrs) = documented(alloc, &mut left)?;
         Ok(Variant {
             name,
@@ -64,7 +62,7 @@ impl FromForm for Variant {
 }
 
 /// A struct, or an out-struct.
-#[tactic(auto, unfolding(crate::specs::forms::Docs::documented, crate::specs::inside::Left::are_apart, crate::specs::Keys::key_text))]
+#[tactic(auto, unfolding(crate::specs::forms::Docs::documented, bridge_form::specs::Left::are_apart, bridge_form::specs::Keys::key_text))]
 fn struct_item(alloc: Global, value: Value, output_only: bool) -> Result<Item, ReadFault>
     ensures { Gives result ((object_with (struct_parts output_only)).read (view value)) }
 {
@@ -82,10 +80,10 @@ fn struct_item(alloc: Global, value: Value, output_only: bool) -> Result<Item, R
         ],
     )?;
     left.next();
-    let name = left.needed(alloc)?;
-    let nodes = left.listed(alloc)?;
-    let fields = left.listed(alloc)?;
-    let methods = left.listed(alloc)?;
+    let name = needed(alloc, &mut left)?;
+    let nodes = listed(alloc, &mut left)?;
+    let fields = listed(alloc, &mut left)?;
+    let methods = listed(alloc, &mut left)?;
     let (docs, attrs) = documented(alloc, &mut left)?;
     Ok(Item::Struct(Struct {
         name,
@@ -99,7 +97,7 @@ fn struct_item(alloc: Global, value: Value, output_only: bool) -> Result<Item, R
 }
 
 /// An opaque.
-#[tactic(auto, unfolding(crate::specs::forms::Items::opaque_parts, crate::specs::forms::Docs::documented, crate::specs::inside::Left::are_apart, crate::specs::Keys::key_text))]
+#[tactic(auto, unfolding(crate::specs::forms::Items::opaque_parts, crate::specs::forms::Docs::documented, bridge_form::specs::Left::are_apart, bridge_form::specs::Keys::key_text))]
 fn opaque(alloc: Global, value: Value) -> Result<Item, ReadFault>
     ensures { Gives result ((object_with opaque_parts).read (view value)) }
 {
@@ -118,11 +116,11 @@ fn opaque(alloc: Global, value: Value) -> Result<Item, ReadFault>
         ],
     )?;
     left.next();
-    let name = left.needed(alloc)?;
-    let nodes = left.listed(alloc)?;
-    let mutable = left.flag(alloc)?;
-    let methods = left.listed(alloc)?;
-    let dtor_abi_name = or_name(alloc, &name, left.optional(alloc)?)?;
+    let name = needed(alloc, &mut left)?;
+    let nodes = listed(alloc, &mut left)?;
+    let mutable = flag(alloc, &mut left)?;
+    let methods = listed(alloc, &mut left)?;
+    let dtor_abi_name = or_name(alloc, &name, optional(alloc, &mut left)?)?;
     let (docs, attrs) = documented(alloc, &mut left)?;
     Ok(Item::Opaque(OpaqueType {
         dtor_abi_name,
@@ -136,7 +134,7 @@ fn opaque(alloc: Global, value: Value) -> Result<Item, ReadFault>
 }
 
 /// An enum.
-#[tactic(auto, unfolding(crate::specs::forms::Items::enum_parts, crate::specs::forms::Docs::documented, crate::specs::inside::Left::are_apart, crate::specs::Keys::key_text))]
+#[tactic(auto, unfolding(crate::specs::forms::Items::enum_parts, crate::specs::forms::Docs::documented, bridge_form::specs::Left::are_apart, bridge_form::specs::Keys::key_text))]
 fn enum_item(alloc: Global, value: Value) -> Result<Item, ReadFault>
     ensures { Gives result ((object_with enum_parts).read (view value)) }
 {
@@ -153,9 +151,9 @@ fn enum_item(alloc: Global, value: Value) -> Result<Item, ReadFault>
         ],
     )?;
     left.next();
-    let name = left.needed(alloc)?;
-    let variants = left.listed(alloc)?;
-    let methods = left.listed(alloc)?;
+    let name = needed(alloc, &mut left)?;
+    let variants = listed(alloc, &mut left)?;
+    let methods = listed(alloc, &mut left)?;
     let (docs, attrs) = documented(alloc, &mut left)?;
     Ok(Item::Enum(Enum {
         name,
@@ -167,7 +165,7 @@ fn enum_item(alloc: Global, value: Value) -> Result<Item, ReadFault>
 }
 
 /// A trait.
-#[tactic(auto, unfolding(crate::specs::forms::Items::trait_parts, crate::specs::forms::Docs::documented, crate::specs::inside::Left::are_apart, crate::specs::Keys::key_text))]
+#[tactic(auto, unfolding(crate::specs::forms::Items::trait_parts, crate::specs::forms::Docs::documented, bridge_form::specs::Left::are_apart, bridge_form::specs::Keys::key_text))]
 fn trait_item(alloc: Global, value: Value) -> Result<Item, ReadFault>
     ensures { Gives result ((object_with trait_parts).read (view value)) }
 {
@@ -186,11 +184,11 @@ fn trait_item(alloc: Global, value: Value) -> Result<Item, ReadFault>
         ],
     )?;
     left.next();
-    let name = left.needed(alloc)?;
-    let nodes = left.listed(alloc)?;
-    let methods = left.listed(alloc)?;
-    let is_send = left.flag(alloc)?;
-    let is_sync = left.flag(alloc)?;
+    let name = needed(alloc, &mut left)?;
+    let nodes = listed(alloc, &mut left)?;
+    let methods = listed(alloc, &mut left)?;
+    let is_send = flag(alloc, &mut left)?;
+    let is_sync = flag(alloc, &mut left)?;
     let (docs, attrs) = documented(alloc, &mut left)?;
     Ok(Item::Trait(Trait {
         name,
@@ -204,7 +202,7 @@ fn trait_item(alloc: Global, value: Value) -> Result<Item, ReadFault>
 }
 
 /// A function.
-#[tactic(auto, unfolding(crate::specs::forms::Items::function_parts, crate::specs::forms::Methods::signature, crate::specs::forms::Docs::documented, crate::specs::inside::Left::are_apart, crate::specs::Keys::key_text))]
+#[tactic(auto, unfolding(crate::specs::forms::Items::function_parts, crate::specs::forms::Methods::signature, crate::specs::forms::Docs::documented, bridge_form::specs::Left::are_apart, bridge_form::specs::Keys::key_text))]
 fn function(alloc: Global, value: Value) -> Result<Item, ReadFault>
     ensures { Gives result ((object_with function_parts).read (view value)) }
 {
@@ -223,8 +221,8 @@ fn function(alloc: Global, value: Value) -> Result<Item, ReadFault>
         ],
     )?;
     left.next();
-    let name = left.needed(alloc)?;
-    let abi_name = or_name(alloc, &name, left.optional(alloc)?)?;
+    let name = needed(alloc, &mut left)?;
+    let abi_name = or_name(alloc, &name, optional(alloc, &mut left)?)?;
     let signature = signed(alloc, &mut left)?;
     let (docs, attrs) = documented(alloc, &mut left)?;
     Ok(Item::Function(Function {

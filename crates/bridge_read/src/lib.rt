@@ -16,28 +16,23 @@
 //! these are read in the order in which docs/INPUT.md lists them. Where the whole value has the form, the modules are tested as an
 //! environment, and a second item `Locale` of `ffi` is a `duplicate item` at `/root/modules/0/items/1`.
 //!
-//! `reading` has the trait by which parts are read, `fields`, `choice`, `objects` and `words` what objects and words share; `lifetimes`,
-//! `types`, `attrs`, `docs`, `methods`, `items`, `modules` and `settings` read a subject each, `places` finds the pointer of a declaration.
+//! `bridge_form` takes objects apart, whatever they spell. Here `reading` has the trait by which parts are read, and `words` the tables of
+//! words; `lifetimes`, `types`, `attrs`, `docs`, `methods`, `items`, `modules` and `settings` read a subject each, and `places` finds the
+//! pointer of a declaration.
 #![tactic(auto)]
 
 mod attrs;
-mod choice;
 mod docs;
-mod fault;
-mod fields;
 mod input;
 mod items;
-mod keys;
 mod lifetimes;
 mod methods;
 mod modules;
-mod objects;
 mod places;
-mod pointer;
 mod reading;
 mod settings;
 mod types;
 mod words;
 
-pub use fault::InputKind;
+pub use bridge_form::InputKind;
 pub use input::{Input, InputFault, read_input};

@@ -3,15 +3,13 @@
 ghost use Rattle.std.specs.Prelude.{◌≡◌};
 ghost use Rattle.bridge_read.specs.forms.Lifetimes.{lifetime_called, mutability};
 
-use crate::fault::ReadFault;
-use crate::fields::Fields;
-use crate::keys::Key;
-use crate::reading::FromForm;
+use crate::reading::{FromForm, flag, listed, needed, needed_some};
 use bridge_ast::{Lifetime, LifetimeNode, Mutability, PathType, Text};
+use bridge_form::{Fields, Key, ReadFault};
 use serde_json::Value;
 use std::alloc::Global;
 
-#[tactic(auto, unfolding(crate::specs::forms::Lifetimes::node, crate::specs::inside::Left::are_apart, crate::specs::Keys::key_text))]
+#[tactic(auto, unfolding(crate::specs::forms::Lifetimes::node, bridge_form::specs::Left::are_apart, bridge_form::specs::Keys::key_text))]
 impl FromForm for LifetimeNode {
     ghost use Rattle.bridge_read.specs.forms.Lifetimes.{node};
 
@@ -20,9 +18,9 @@ impl FromForm for LifetimeNode {
     fn from_form(alloc: Global, value: Value) -> Result<LifetimeNode, ReadFault> {
         let mut left = Fields::of(alloc, value, &[Key::Name, Key::Longer, Key::Shorter])?;
         Ok(LifetimeNode {
-            name: left.needed(alloc)?,
-            longer: left.listed(alloc)?,
-            shorter: left.listed(alloc)?,
+            name: needed(alloc, &mut left)?,
+            longer: listed(alloc, &mut left)?,
+            shorter: listed(alloc, &mut left)?,
         })
     }
 }
@@ -61,7 +59,7 @@ pub fn mutability(mutable: bool) -> Mutability
     }
 }
 
-#[tactic(auto, unfolding(crate::specs::forms::Lifetimes::reference, crate::specs::inside::Left::are_apart, crate::specs::Keys::key_text))]
+#[tactic(auto, unfolding(crate::specs::forms::Lifetimes::reference, bridge_form::specs::Left::are_apart, bridge_form::specs::Keys::key_text))]
 impl FromForm for (Lifetime, Mutability) {
     ghost use Rattle.bridge_read.specs.forms.Lifetimes.{reference};
 
@@ -69,13 +67,13 @@ impl FromForm for (Lifetime, Mutability) {
 
     fn from_form(alloc: Global, value: Value) -> Result<(Lifetime, Mutability), ReadFault> {
         let mut left = Fields::of(alloc, value, &[Key::Lifetime, Key::Mutable])?;
-        let lifetime = left.needed(alloc)?;
-        let mutable = left.flag(alloc)?;
+        let lifetime = needed(alloc, &mut left)?;
+        let mutable = flag(alloc, &mut left)?;
         Ok((lifetime, mutability(mutable)))
     }
 }
 
-#[tactic(auto, unfolding(crate::specs::forms::Lifetimes::path, crate::specs::inside::Left::are_apart, crate::specs::Keys::key_text))]
+#[tactic(auto, unfolding(crate::specs::forms::Lifetimes::path, bridge_form::specs::Left::are_apart, bridge_form::specs::Keys::key_text))]
 impl FromForm for PathType {
     ghost use Rattle.bridge_read.specs.forms.Lifetimes.{path};
 
@@ -84,8 +82,8 @@ impl FromForm for PathType {
     fn from_form(alloc: Global, value: Value) -> Result<PathType, ReadFault> {
         let mut left = Fields::of(alloc, value, &[Key::Segments, Key::Lifetimes])?;
         Ok(PathType {
-            segments: left.needed_some(alloc)?,
-            lifetimes: left.listed(alloc)?,
+            segments: needed_some(alloc, &mut left)?,
+            lifetimes: listed(alloc, &mut left)?,
         })
     }
 }

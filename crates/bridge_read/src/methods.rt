@@ -2,21 +2,20 @@
 
 ghost use Rattle.std.specs.Prelude.{◌≡◌, ◌∷◌, IfOk, List};
 ghost use Rattle.serde_json.specs.Data.{Data};
-ghost use Rattle.bridge_read.specs.declared.keys.Key.{Key as Name};
-ghost use Rattle.bridge_read.specs.Form.{read_alone};
+ghost use Rattle.bridge_form.specs.declared.keys.Key.{Key as Name};
+ghost use Rattle.bridge_form.specs.Form.{read_alone};
 ghost use Rattle.bridge_read.specs.forms.Methods.{method_head, or_else, signature, trait_signature};
-ghost use Rattle.bridge_read.specs.inside.Left.{IsLeft, Takes};
+ghost use Rattle.bridge_form.specs.Left.{IsLeft};
+ghost use Rattle.bridge_read.specs.inside.Taking.{Takes};
 
 use crate::attrs::no_attrs;
 use crate::docs::documented;
-use crate::fault::ReadFault;
-use crate::fields::Fields;
-use crate::keys::Key;
-use crate::reading::FromForm;
+use crate::reading::{FromForm, held, listed, needed, optional};
 use bridge_ast::{
     Items, LifetimeEnv, LifetimeNode, Method, NoMemory, Param, PathType, SelfParam, Text,
     TraitMethod, TraitSelfParam, TypeName,
 };
+use bridge_form::{Fields, Key, ReadFault};
 use serde_json::Value;
 use std::alloc::Global;
 
@@ -30,7 +29,7 @@ pub fn or_name(alloc: Global, name: &Text, given: Option<Text>) -> Result<Text, 
     }
 }
 
-#[tactic(auto, unfolding(crate::specs::forms::Methods::param, crate::specs::inside::Left::are_apart, crate::specs::Keys::key_text))]
+#[tactic(auto, unfolding(crate::specs::forms::Methods::param, bridge_form::specs::Left::are_apart, bridge_form::specs::Keys::key_text))]
 impl FromForm for Param {
     ghost use Rattle.bridge_read.specs.forms.Methods.{param};
 
@@ -39,14 +38,14 @@ impl FromForm for Param {
     fn from_form(alloc: Global, value: Value) -> Result<Param, ReadFault> {
         let mut left = Fields::of(alloc, value, &[Key::Name, Key::Ty, Key::Attrs])?;
         Ok(Param {
-            name: left.needed(alloc)?,
-            ty: left.needed(alloc)?,
-            attrs: left.held(alloc, no_attrs(alloc))?,
+            name: needed(alloc, &mut left)?,
+            ty: needed(alloc, &mut left)?,
+            attrs: held(alloc, &mut left, no_attrs(alloc))?,
         })
     }
 }
 
-#[tactic(auto, unfolding(crate::specs::forms::Methods::receiver, crate::specs::inside::Left::are_apart, crate::specs::Keys::key_text))]
+#[tactic(auto, unfolding(crate::specs::forms::Methods::receiver, bridge_form::specs::Left::are_apart, bridge_form::specs::Keys::key_text))]
 impl FromForm for SelfParam {
     ghost use Rattle.bridge_read.specs.forms.Methods.{receiver};
 
@@ -55,9 +54,9 @@ impl FromForm for SelfParam {
     fn from_form(alloc: Global, value: Value) -> Result<SelfParam, ReadFault> {
         let mut left = Fields::of(alloc, value, &[Key::Reference, Key::Path, Key::Attrs])?;
         Ok(SelfParam {
-            reference: left.optional(alloc)?,
-            path_type: left.needed(alloc)?,
-            attrs: left.held(alloc, no_attrs(alloc))?,
+            reference: optional(alloc, &mut left)?,
+            path_type: needed(alloc, &mut left)?,
+            attrs: held(alloc, &mut left, no_attrs(alloc))?,
         })
     }
 }
@@ -81,9 +80,9 @@ pub fn signed(alloc: Global, left: &mut Fields) -> Result<Signature, ReadFault>
         → Takes result (read_alone signature d) left.new keys d }
 {
     Ok(Signature {
-        nodes: left.listed(alloc)?,
-        params: left.listed(alloc)?,
-        returned: left.optional(alloc)?,
+        nodes: listed(alloc, left)?,
+        params: listed(alloc, left)?,
+        returned: optional(alloc, left)?,
     })
 }
 
@@ -107,10 +106,10 @@ fn method_head(alloc: Global, left: &mut Fields) -> Result<MethodHead, ReadFault
         → IsLeft left.old (Key.Name ∷ Key.AbiName ∷ Key.SelfType ∷ Key.Itself ∷ keys) d
         → Takes result (read_alone method_head d) left.new keys d }
 {
-    let name = left.needed(alloc)?;
-    let abi_name = or_name(alloc, &name, left.optional(alloc)?)?;
-    let self_type = left.needed(alloc)?;
-    let self_param = left.optional(alloc)?;
+    let name = needed(alloc, left)?;
+    let abi_name = or_name(alloc, &name, optional(alloc, left)?)?;
+    let self_type = needed(alloc, left)?;
+    let self_param = optional(alloc, left)?;
     Ok(MethodHead {
         abi_name,
         name,
@@ -119,7 +118,7 @@ fn method_head(alloc: Global, left: &mut Fields) -> Result<MethodHead, ReadFault
     })
 }
 
-#[tactic(auto, unfolding(crate::specs::forms::Methods::method, crate::specs::forms::Methods::method_head, crate::specs::forms::Methods::signature, crate::specs::forms::Docs::documented, crate::specs::inside::Left::are_apart, crate::specs::Keys::key_text))]
+#[tactic(auto, unfolding(crate::specs::forms::Methods::method, crate::specs::forms::Methods::method_head, crate::specs::forms::Methods::signature, crate::specs::forms::Docs::documented, bridge_form::specs::Left::are_apart, bridge_form::specs::Keys::key_text))]
 impl FromForm for Method {
     ghost use Rattle.bridge_read.specs.forms.Methods.{method};
 
@@ -160,7 +159,7 @@ impl FromForm for Method {
     }
 }
 
-#[tactic(auto, unfolding(crate::specs::forms::Methods::trait_receiver, crate::specs::inside::Left::are_apart, crate::specs::Keys::key_text))]
+#[tactic(auto, unfolding(crate::specs::forms::Methods::trait_receiver, bridge_form::specs::Left::are_apart, bridge_form::specs::Keys::key_text))]
 impl FromForm for TraitSelfParam {
     ghost use Rattle.bridge_read.specs.forms.Methods.{trait_receiver};
 
@@ -169,8 +168,8 @@ impl FromForm for TraitSelfParam {
     fn from_form(alloc: Global, value: Value) -> Result<TraitSelfParam, ReadFault> {
         let mut left = Fields::of(alloc, value, &[Key::Reference, Key::Path])?;
         Ok(TraitSelfParam {
-            reference: left.optional(alloc)?,
-            path_trait: left.needed(alloc)?,
+            reference: optional(alloc, &mut left)?,
+            path_trait: needed(alloc, &mut left)?,
         })
     }
 }
@@ -196,14 +195,14 @@ fn trait_signed(alloc: Global, left: &mut Fields) -> Result<TraitSignature, Read
         → Takes result (read_alone trait_signature d) left.new keys d }
 {
     Ok(TraitSignature {
-        nodes: left.listed(alloc)?,
-        self_param: left.optional(alloc)?,
-        params: left.listed(alloc)?,
-        returned: left.optional(alloc)?,
+        nodes: listed(alloc, left)?,
+        self_param: optional(alloc, left)?,
+        params: listed(alloc, left)?,
+        returned: optional(alloc, left)?,
     })
 }
 
-#[tactic(auto, unfolding(crate::specs::forms::Methods::trait_method, crate::specs::forms::Methods::trait_signature, crate::specs::forms::Docs::documented, crate::specs::inside::Left::are_apart, crate::specs::Keys::key_text))]
+#[tactic(auto, unfolding(crate::specs::forms::Methods::trait_method, crate::specs::forms::Methods::trait_signature, crate::specs::forms::Docs::documented, bridge_form::specs::Left::are_apart, bridge_form::specs::Keys::key_text))]
 impl FromForm for TraitMethod {
     ghost use Rattle.bridge_read.specs.forms.Methods.{trait_method};
 
@@ -223,7 +222,7 @@ impl FromForm for TraitMethod {
                 Key::Attrs,
             ],
         )?;
-        let name = left.needed(alloc)?;
+        let name = needed(alloc, &mut left)?;
         let signature = trait_signed(alloc, &mut left)?;
         let (docs, attrs) = documented(alloc, &mut left)?;
         Ok(TraitMethod {

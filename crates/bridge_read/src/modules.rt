@@ -3,25 +3,23 @@
 ghost use Rattle.std.specs.Prelude.{◌≡◌, ◌+◌, [], ◌∷◌, ◌++◌, length, IfOk, List, OnOk};
 ghost use Rattle.serde_json.specs.Data.{Data};
 ghost use Rattle.serde_json.specs.View.{view};
-ghost use Rattle.bridge_read.specs.declared.keys.Key.{Key as Name};
-ghost use Rattle.bridge_read.specs.Form.{object_with, read_alone};
-ghost use Rattle.bridge_read.specs.inside.Given.{Gives, held};
+ghost use Rattle.bridge_form.specs.declared.keys.Key.{Key as Name};
+ghost use Rattle.bridge_form.specs.Form.{object_with, read_alone};
+ghost use Rattle.bridge_form.specs.Given.{Gives};
+ghost use Rattle.bridge_read.specs.inside.Taking.{Takes, held};
 ghost use Rattle.bridge_read.specs.forms.Modules.{contents, module_of, module_parts, module_within, nested_in, root};
-ghost use Rattle.bridge_read.specs.inside.Left.{IsLeft, Takes};
+ghost use Rattle.bridge_form.specs.Left.{IsLeft};
 ghost use Rattle.bridge_read.specs.inside.Names.{NamesModule};
 
 use crate::attrs::no_attrs;
-use crate::fault::ReadFault;
-use crate::fields::{Field, Fields};
-use crate::keys::Key;
-use crate::objects::{in_entry, in_member};
-use crate::reading::{FromForm, entries};
+use crate::reading::{FromForm, entries, held, listed, needed};
 use bridge_ast::{Alias, Attrs, Item, Items, Module, NoMemory, Text};
+use bridge_form::{Field, Fields, Key, ReadFault, in_entry, in_member};
 use serde_json::Value;
 use std::alloc::{AllocError, Global};
 use std::marker::Model;
 
-#[tactic(auto, unfolding(crate::specs::forms::Modules::alias, crate::specs::inside::Left::are_apart, crate::specs::Keys::key_text))]
+#[tactic(auto, unfolding(crate::specs::forms::Modules::alias, bridge_form::specs::Left::are_apart, bridge_form::specs::Keys::key_text))]
 impl FromForm for Alias {
     ghost use Rattle.bridge_read.specs.forms.Modules.{alias};
 
@@ -30,8 +28,8 @@ impl FromForm for Alias {
     fn from_form(alloc: Global, value: Value) -> Result<Alias, ReadFault> {
         let mut left = Fields::of(alloc, value, &[Key::Name, Key::Target])?;
         Ok(Alias {
-            name: left.needed(alloc)?,
-            target: left.needed(alloc)?,
+            name: needed(alloc, &mut left)?,
+            target: needed(alloc, &mut left)?,
         })
     }
 }
@@ -55,9 +53,9 @@ fn contents_in(alloc: Global, left: &mut Fields) -> Result<Contents, ReadFault>
         → Takes result (read_alone contents d) left.new keys d }
 {
     Ok(Contents {
-        attrs: left.held(alloc, no_attrs(alloc))?,
-        items: left.listed(alloc)?,
-        aliases: left.listed(alloc)?,
+        attrs: held(alloc, left, no_attrs(alloc))?,
+        items: listed(alloc, left)?,
+        aliases: listed(alloc, left)?,
     })
 }
 
@@ -67,7 +65,7 @@ fn module_name(alloc: Global, left: &mut Fields) -> Result<Text, ReadFault>
     ensures { (keys : List Name) (d : Data) → IsLeft left.old (Key.Name ∷ keys) d
         → NamesModule result left.new keys d }
 {
-    left.needed(alloc)
+    needed(alloc, left)
 }
 
 /// How many bytes the paths of all modules may take together: each keeps the names of all modules around it, so that a
@@ -223,7 +221,7 @@ fn nested_modules(
 
 /// A module in the module of that path, with those that stand in it after it.
 #[cycle(modules)]
-#[tactic(auto, unfolding(crate::specs::forms::Modules::contents, crate::specs::inside::Left::are_apart, crate::specs::Keys::key_text))]
+#[tactic(auto, unfolding(crate::specs::forms::Modules::contents, bridge_form::specs::Left::are_apart, bridge_form::specs::Keys::key_text))]
 fn module_object(
     alloc: Global,
     room: &mut usize,
@@ -270,7 +268,7 @@ fn module_within(
 }
 
 /// The root, with all other modules after it.
-#[tactic(auto, unfolding(crate::specs::forms::Modules::root, crate::specs::forms::Modules::contents, crate::specs::inside::Left::are_apart, crate::specs::Keys::key_text))]
+#[tactic(auto, unfolding(crate::specs::forms::Modules::root, crate::specs::forms::Modules::contents, bridge_form::specs::Left::are_apart, bridge_form::specs::Keys::key_text))]
 fn root(alloc: Global, value: Value) -> Result<ModuleList, ReadFault>
     ensures { Gives result (root.read (view value)) }
 {

@@ -5,12 +5,10 @@ ghost use Rattle.serde_json.specs.View.{items_view};
 ghost use Rattle.serde_json.specs.View.{view};
 ghost use Rattle.bridge_read.specs.inside.Places.{Searches};
 ghost use Rattle.bridge_read.specs.Pointers.{entry, in_entries, items_of, method_steps, module_pointers, modules_within, part_steps, place_steps};
-ghost use Rattle.bridge_read.specs.Reading.{at_key};
+ghost use Rattle.bridge_form.specs.Reading.{at_key};
 
-use crate::keys::Key;
-use crate::objects::under;
-use crate::pointer::{Pointer, Step};
 use bridge_ast::{EnvPart, EnvPlace, NoMemory, Text};
+use bridge_form::{Key, Pointer, Step, under};
 use serde_json::Value;
 use std::alloc::Global;
 

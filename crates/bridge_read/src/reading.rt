@@ -1,14 +1,17 @@
 //! What can be read from a JSON value.
 
-ghost use Rattle.std.specs.Prelude.{◌≡◌, [], IfOk, string_bytes};
+ghost use Rattle.std.specs.Prelude.{◌≡◌, [], ◌∷◌, List, false, IfOk, string_bytes};
+ghost use Rattle.serde_json.specs.Data.{Data};
 ghost use Rattle.serde_json.specs.View.{view, items_view};
-ghost use Rattle.bridge_read.specs.Form.{two_of};
-ghost use Rattle.bridge_read.specs.Reading.{entries_of, list_of, text_of};
-ghost use Rattle.bridge_read.specs.inside.Given.{Gives, GivesBy, some_of};
+ghost use Rattle.bridge_form.specs.declared.keys.Key.{Key as Name};
+ghost use Rattle.bridge_form.specs.Form.{two_of};
+ghost use Rattle.bridge_form.specs.Given.{Gives, GivesBy};
+ghost use Rattle.bridge_read.specs.inside.Taking.{Takes, held, needed, optional, some_of};
+ghost use Rattle.bridge_form.specs.Left.{IsLeft};
+ghost use Rattle.bridge_form.specs.Reading.{entries_of, flag_of, list_of, text_of};
 
-use crate::fault::ReadFault;
-use crate::objects::in_entry;
 use bridge_ast::{Items, NoMemory, Text};
+use bridge_form::{Field, Fields, ReadFault, in_entry, in_member};
 use serde_json::Value;
 use std::alloc::Global;
 
@@ -16,7 +19,7 @@ use std::alloc::Global;
 pub trait FromForm: Drop {
     ghost use Rattle.std.specs.Prelude.{Result};
     ghost use Rattle.serde_json.specs.Data.{Data};
-    ghost use Rattle.bridge_read.specs.declared.fault.Fault.{Fault as Wrong};
+    ghost use Rattle.bridge_form.specs.declared.fault.Fault.{Fault as Wrong};
 
     /// What a value is read as, or its first fault.
     ghost form: { Data → Result Self Wrong };
@@ -27,7 +30,7 @@ pub trait FromForm: Drop {
 }
 
 /// The text that a value is, lent.
-#[tactic(auto, unfolding(crate::specs::Reading::text_of))]
+#[tactic(auto, unfolding(bridge_form::specs::Reading::text_of))]
 pub fn text(alloc: Global, value: &Value) -> Result<&str, ReadFault>
     ensures { GivesBy (λ s. s.now) result (text_of (view value.now)) }
 {
@@ -38,7 +41,7 @@ pub fn text(alloc: Global, value: &Value) -> Result<&str, ReadFault>
 }
 
 /// The text that a value is.
-#[tactic(auto, unfolding(crate::specs::Reading::text_of))]
+#[tactic(auto, unfolding(bridge_form::specs::Reading::text_of))]
 fn owned_text(alloc: Global, value: Value) -> Result<String, ReadFault>
     ensures { GivesBy string_bytes result (text_of (view value)) }
 {
@@ -51,7 +54,7 @@ fn owned_text(alloc: Global, value: Value) -> Result<String, ReadFault>
 }
 
 /// The entries of a list.
-#[tactic(auto, unfolding(crate::specs::Reading::entries_of))]
+#[tactic(auto, unfolding(bridge_form::specs::Reading::entries_of))]
 pub fn entries(alloc: Global, value: Value) -> Result<Vec<Value>, ReadFault>
     ensures { GivesBy (λ vs. items_view vs.items) result (entries_of (view value)) }
 {
@@ -101,9 +104,9 @@ impl<T: FromForm> FromForm for Items<T> {
     }
 }
 
-#[tactic(auto, unfolding(crate::specs::Reading::text_of))]
+#[tactic(auto, unfolding(bridge_form::specs::Reading::text_of))]
 impl FromForm for Text {
-    ghost use Rattle.bridge_read.specs.Reading.{text_of};
+    ghost use Rattle.bridge_form.specs.Reading.{text_of};
 
     ghost form = { text_of };
 
@@ -112,9 +115,9 @@ impl FromForm for Text {
     }
 }
 
-#[tactic(auto, unfolding(crate::specs::Reading::number_read))]
+#[tactic(auto, unfolding(bridge_form::specs::Reading::number_read))]
 impl FromForm for usize {
-    ghost use Rattle.bridge_read.specs.Reading.{number_read};
+    ghost use Rattle.bridge_form.specs.Reading.{number_read};
 
     ghost form = { number_read };
 
@@ -126,9 +129,9 @@ impl FromForm for usize {
     }
 }
 
-#[tactic(auto, unfolding(crate::specs::Reading::flag_of))]
+#[tactic(auto, unfolding(bridge_form::specs::Reading::flag_of))]
 impl FromForm for bool {
-    ghost use Rattle.bridge_read.specs.Reading.{flag_of};
+    ghost use Rattle.bridge_form.specs.Reading.{flag_of};
 
     ghost form = { flag_of };
 
@@ -140,9 +143,9 @@ impl FromForm for bool {
     }
 }
 
-#[tactic(auto, unfolding(crate::specs::Reading::byte_of))]
+#[tactic(auto, unfolding(bridge_form::specs::Reading::byte_of))]
 impl FromForm for u8 {
-    ghost use Rattle.bridge_read.specs.Reading.{byte_of};
+    ghost use Rattle.bridge_form.specs.Reading.{byte_of};
 
     ghost form = { byte_of };
 
@@ -154,9 +157,9 @@ impl FromForm for u8 {
     }
 }
 
-#[tactic(auto, unfolding(crate::specs::Reading::integer_of))]
+#[tactic(auto, unfolding(bridge_form::specs::Reading::integer_of))]
 impl FromForm for i64 {
-    ghost use Rattle.bridge_read.specs.Reading.{integer_of};
+    ghost use Rattle.bridge_form.specs.Reading.{integer_of};
 
     ghost form = { integer_of };
 
@@ -181,4 +184,68 @@ pub fn two<T: FromForm>(alloc: Global, value: Value) -> Result<(T, T), ReadFault
         }
         _ => Err(ReadFault::wrong_form(alloc)),
     }
+}
+
+/// What stands under the next key, which is required.
+pub fn needed<T: FromForm>(alloc: Global, left: &mut Fields) -> Result<T, ReadFault>
+    ensures { (key : Name) (keys : List Name) (d : Data) → IsLeft left.old (key ∷ keys) d
+        → Takes result (needed T.form key d) left.new keys d }
+{
+    let Field { key, value } = left.next();
+    match value {
+        Some(value) => in_member(alloc, key, T::from_form(alloc, value)),
+        None => Err(ReadFault::missing_key(alloc)),
+    }
+}
+
+/// What stands under the next key, if anything does.
+pub fn optional<T: FromForm>(alloc: Global, left: &mut Fields) -> Result<Option<T>, ReadFault>
+    ensures { (key : Name) (keys : List Name) (d : Data) → IsLeft left.old (key ∷ keys) d
+        → Takes result (optional T.form key d) left.new keys d }
+{
+    let Field { key, value } = left.next();
+    match value {
+        Some(value) => Ok(Some(in_member(alloc, key, T::from_form(alloc, value))?)),
+        None => Ok(None),
+    }
+}
+
+/// What stands under the next key, or what its absence stands for.
+pub fn held<T: FromForm>(alloc: Global, left: &mut Fields, absent: T) -> Result<T, ReadFault>
+    ensures { (key : Name) (keys : List Name) (d : Data) → IsLeft left.old (key ∷ keys) d
+        → Takes result (held absent T.form key d) left.new keys d }
+{
+    let Field { key, value } = left.next();
+    match value {
+        Some(value) => in_member(alloc, key, T::from_form(alloc, value)),
+        None => Ok(absent),
+    }
+}
+
+/// The list under the next key; the empty one where nothing stands there.
+pub fn listed<T: FromForm>(alloc: Global, left: &mut Fields) -> Result<Items<T>, ReadFault>
+    ensures { (key : Name) (keys : List Name) (d : Data) → IsLeft left.old (key ∷ keys) d
+        → Takes result (held [] (list_of T.form) key d) left.new keys d }
+{
+    held(alloc, left, Items::new(alloc))
+}
+
+/// The list under the next key, which is required and not empty.
+pub fn needed_some<T: FromForm>(alloc: Global, left: &mut Fields) -> Result<Items<T>, ReadFault>
+    ensures { (key : Name) (keys : List Name) (d : Data) → IsLeft left.old (key ∷ keys) d
+        → Takes result (needed (some_of (list_of T.form)) key d) left.new keys d }
+{
+    let Field { key, value } = left.next();
+    match value {
+        Some(value) => in_member(alloc, key, some_list_of(alloc, value)),
+        None => Err(ReadFault::missing_key(alloc)),
+    }
+}
+
+/// Whether `true` stands under the next key.
+pub fn flag(alloc: Global, left: &mut Fields) -> Result<bool, ReadFault>
+    ensures { (key : Name) (keys : List Name) (d : Data) → IsLeft left.old (key ∷ keys) d
+        → Takes result (held false flag_of key d) left.new keys d }
+{
+    held(alloc, left, false)
 }

@@ -3,17 +3,15 @@
 ghost use Rattle.std.specs.Prelude.{◌≡◌, [], ◌∷◌, List};
 ghost use Rattle.serde_json.specs.Data.{Data};
 ghost use Rattle.hir_backends.specs.Support.{no_flags};
-ghost use Rattle.bridge_read.specs.declared.keys.Key.{Key as Name};
-ghost use Rattle.bridge_read.specs.Form.{find_word, read_alone};
+ghost use Rattle.bridge_form.specs.declared.keys.Key.{Key as Name};
+ghost use Rattle.bridge_form.specs.Form.{find_word, read_alone};
 ghost use Rattle.bridge_read.specs.forms.Settings.{backend_names, flag_words, turned_on};
-ghost use Rattle.bridge_read.specs.inside.Left.{IsLeft, Takes};
+ghost use Rattle.bridge_form.specs.Left.{IsLeft};
+ghost use Rattle.bridge_read.specs.inside.Taking.{Takes};
 
-use crate::fault::ReadFault;
-use crate::fields::Fields;
-use crate::keys::Key;
-use crate::objects::{in_member_named, members};
-use crate::reading::{FromForm, text};
+use crate::reading::{FromForm, flag, held, listed, needed, optional, text};
 use bridge_ast::{Items, NoMemory, Text};
+use bridge_form::{Fields, Key, ReadFault, in_member_named, members};
 use hir_backends::{BackendAttrSupport, BasicAttributeValidator, Names, Pairs, SupportFlag};
 use hir_config::LoweringConfig;
 use hir_docs::DocsUrlGenerator;
@@ -72,7 +70,7 @@ impl FromForm for BackendAttrSupport {
     }
 }
 
-#[tactic(auto, unfolding(crate::specs::forms::Settings::name_value, crate::specs::inside::Left::are_apart, crate::specs::Keys::key_text))]
+#[tactic(auto, unfolding(crate::specs::forms::Settings::name_value, bridge_form::specs::Left::are_apart, bridge_form::specs::Keys::key_text))]
 impl FromForm for (Text, Text) {
     ghost use Rattle.bridge_read.specs.forms.Settings.{name_value};
 
@@ -80,8 +78,8 @@ impl FromForm for (Text, Text) {
 
     fn from_form(alloc: Global, value: Value) -> Result<(Text, Text), ReadFault> {
         let mut left = Fields::of(alloc, value, &[Key::Name, Key::Value])?;
-        let name = left.needed(alloc)?;
-        let value = left.needed(alloc)?;
+        let name = needed(alloc, &mut left)?;
+        let value = needed(alloc, &mut left)?;
         Ok((name, value))
     }
 }
@@ -96,15 +94,15 @@ fn backend_names(alloc: Global, left: &mut Fields) -> Result<BackendNames, ReadF
         → IsLeft left.old (Key.Name ∷ Key.OtherNames ∷ Key.Supports ∷ keys) d
         → Takes result (read_alone backend_names d) left.new keys d }
 {
-    let name = left.held(alloc, Text::new(alloc, "")?)?;
-    let others = left.listed(alloc)?;
-    let support = left.held(alloc, BackendAttrSupport::none())?;
+    let name = held(alloc, left, Text::new(alloc, "")?)?;
+    let others = listed(alloc, left)?;
+    let support = held(alloc, left, BackendAttrSupport::none())?;
     Ok((name, others, support))
 }
 
-#[tactic(auto, unfolding(crate::specs::forms::Settings::backend, crate::specs::forms::Settings::backend_names, crate::specs::inside::Left::are_apart, crate::specs::Keys::key_text))]
+#[tactic(auto, unfolding(crate::specs::forms::Settings::backend, crate::specs::forms::Settings::backend_names, bridge_form::specs::Left::are_apart, bridge_form::specs::Keys::key_text))]
 impl FromForm for BasicAttributeValidator {
-    ghost use Rattle.bridge_read.specs.Form.{find_word, read_alone};
+    ghost use Rattle.bridge_form.specs.Form.{find_word, read_alone};
     ghost use Rattle.bridge_read.specs.forms.Settings.{backend};
 
     ghost form = { backend.read };
@@ -123,9 +121,9 @@ impl FromForm for BasicAttributeValidator {
             ],
         )?;
         let (backend_name, others, support) = backend_names(alloc, &mut left)?;
-        let pairs = left.listed(alloc)?;
-        let features = left.listed(alloc)?;
-        let unstable = left.listed(alloc)?;
+        let pairs = listed(alloc, &mut left)?;
+        let features = listed(alloc, &mut left)?;
+        let unstable = listed(alloc, &mut left)?;
         Ok(BasicAttributeValidator {
             backend_name,
             support,
@@ -137,7 +135,7 @@ impl FromForm for BasicAttributeValidator {
     }
 }
 
-#[tactic(auto, unfolding(crate::specs::forms::Settings::config, crate::specs::inside::Left::are_apart, crate::specs::Keys::key_text))]
+#[tactic(auto, unfolding(crate::specs::forms::Settings::config, bridge_form::specs::Left::are_apart, bridge_form::specs::Keys::key_text))]
 impl FromForm for LoweringConfig {
     ghost use Rattle.bridge_read.specs.forms.Settings.{config};
 
@@ -146,7 +144,7 @@ impl FromForm for LoweringConfig {
     fn from_form(alloc: Global, value: Value) -> Result<LoweringConfig, ReadFault> {
         let mut left = Fields::of(alloc, value, &[Key::UnsafeReferences])?;
         Ok(LoweringConfig {
-            unsafe_references_in_callbacks: left.flag(alloc)?,
+            unsafe_references_in_callbacks: flag(alloc, &mut left)?,
         })
     }
 }
@@ -215,7 +213,7 @@ impl FromForm for Bases {
     }
 }
 
-#[tactic(auto, unfolding(crate::specs::forms::Settings::urls, crate::specs::inside::Left::are_apart, crate::specs::Keys::key_text))]
+#[tactic(auto, unfolding(crate::specs::forms::Settings::urls, bridge_form::specs::Left::are_apart, bridge_form::specs::Keys::key_text))]
 impl FromForm for DocsUrlGenerator {
     ghost use Rattle.bridge_read.specs.forms.Settings.{urls};
 
@@ -223,8 +221,8 @@ impl FromForm for DocsUrlGenerator {
 
     fn from_form(alloc: Global, value: Value) -> Result<DocsUrlGenerator, ReadFault> {
         let mut left = Fields::of(alloc, value, &[Key::Default, Key::Bases])?;
-        let default = left.optional(alloc)?;
-        let bases = left.held(alloc, Bases::new(alloc))?;
+        let default = optional(alloc, &mut left)?;
+        let bases = held(alloc, &mut left, Bases::new(alloc))?;
         Ok(DocsUrlGenerator::with_base_urls(default, bases.into_map()))
     }
 }

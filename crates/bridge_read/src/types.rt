@@ -3,25 +3,22 @@
 ghost use Rattle.std.specs.Prelude.{◌≡◌, [], ◌∷◌, List};
 ghost use Rattle.serde_json.specs.Data.{Data};
 ghost use Rattle.serde_json.specs.View.{view};
-ghost use Rattle.bridge_read.specs.declared.keys.Key.{Key as Name};
-ghost use Rattle.bridge_read.specs.Form.{refined_at_of};
-ghost use Rattle.bridge_read.specs.Reading.{list_of};
-ghost use Rattle.bridge_read.specs.inside.Given.{Gives, held, needed};
-ghost use Rattle.bridge_read.specs.inside.Left.{IsLeft, Takes};
+ghost use Rattle.bridge_form.specs.declared.keys.Key.{Key as Name};
+ghost use Rattle.bridge_form.specs.Form.{refined_at_of};
+ghost use Rattle.bridge_form.specs.Reading.{list_of};
+ghost use Rattle.bridge_form.specs.Given.{Gives};
+ghost use Rattle.bridge_read.specs.inside.Taking.{Takes, held, needed};
+ghost use Rattle.bridge_form.specs.Left.{IsLeft};
 ghost use Rattle.bridge_read.specs.forms.Types.{borrow_of, spelling, type_called, type_word, type_keys, type_under, type_within, written_primitive, writer_called, reference_type, result_type, custom_slice, callback, str_slice, str_list, primitive_slice, written_borrow};
 
-use crate::choice::Choice;
-use crate::fault::{Fault, InputKind, ReadFault};
-use crate::fields::{Field, Fields};
-use crate::keys::Key;
 use crate::lifetimes::mutability;
-use crate::objects::{in_entry, in_member};
-use crate::reading::{FromForm, entries, room_for, text};
+use crate::reading::{FromForm, entries, flag, needed, optional, room_for, text};
 use crate::words::find_word;
 use bridge_ast::{
     Boxed, Items, Lifetime, Mutability, PathType, PrimitiveType, StdlibOrDiplomat, TypeName,
     WriteType,
 };
+use bridge_form::{Choice, Fault, Field, Fields, InputKind, Key, ReadFault, in_entry, in_member};
 use serde_json::Value;
 use std::alloc::Global;
 
@@ -101,25 +98,25 @@ impl FromForm for WriteType {
 }
 
 /// `{"lifetime": lifetime, "encoding": encoding, "std": bool}`.
-#[tactic(auto, unfolding(crate::specs::forms::Types::str_slice, crate::specs::inside::Left::are_apart, crate::specs::Keys::key_text))]
+#[tactic(auto, unfolding(crate::specs::forms::Types::str_slice, bridge_form::specs::Left::are_apart, bridge_form::specs::Keys::key_text))]
 fn str_slice(alloc: Global, value: Value) -> Result<TypeName, ReadFault>
     ensures { Gives result (str_slice.read (view value)) }
 {
     let mut left = Fields::of(alloc, value, &[Key::Lifetime, Key::Encoding, Key::Std])?;
-    let lifetime = left.optional(alloc)?;
-    let encoding = left.needed(alloc)?;
-    let std = left.flag(alloc)?;
+    let lifetime = optional(alloc, &mut left)?;
+    let encoding = needed(alloc, &mut left)?;
+    let std = flag(alloc, &mut left)?;
     Ok(TypeName::StrReference(lifetime, encoding, spelling(std)))
 }
 
 /// `{"encoding": encoding, "std": bool}`.
-#[tactic(auto, unfolding(crate::specs::forms::Types::str_list, crate::specs::inside::Left::are_apart, crate::specs::Keys::key_text))]
+#[tactic(auto, unfolding(crate::specs::forms::Types::str_list, bridge_form::specs::Left::are_apart, bridge_form::specs::Keys::key_text))]
 fn str_list(alloc: Global, value: Value) -> Result<TypeName, ReadFault>
     ensures { Gives result (str_list.read (view value)) }
 {
     let mut left = Fields::of(alloc, value, &[Key::Encoding, Key::Std])?;
-    let encoding = left.needed(alloc)?;
-    let std = left.flag(alloc)?;
+    let encoding = needed(alloc, &mut left)?;
+    let std = flag(alloc, &mut left)?;
     Ok(TypeName::StrSlice(encoding, spelling(std)))
 }
 
@@ -130,8 +127,8 @@ fn borrow(alloc: Global, left: &mut Fields) -> Result<Option<(Lifetime, Mutabili
         → IsLeft left.old (Key.Lifetime ∷ Key.Mutable ∷ keys) d
         → Takes result (refined_at_of Key.Mutable borrow_of written_borrow d) left.new keys d }
 {
-    let lifetime = left.optional(alloc)?;
-    let mutable = left.flag(alloc)?;
+    let lifetime = optional(alloc, left)?;
+    let mutable = flag(alloc, left)?;
     match lifetime {
         Some(lifetime) => Ok(Some((lifetime, mutability(mutable)))),
         None if mutable => {
@@ -143,7 +140,7 @@ fn borrow(alloc: Global, left: &mut Fields) -> Result<Option<(Lifetime, Mutabili
 }
 
 /// `{"lifetime": lifetime, "mutable": bool, "of": primitive type, "std": bool}`.
-#[tactic(auto, unfolding(crate::specs::forms::Types::primitive_slice, crate::specs::forms::Types::borrow, crate::specs::forms::Types::written_borrow, crate::specs::inside::Left::are_apart, crate::specs::Keys::key_text))]
+#[tactic(auto, unfolding(crate::specs::forms::Types::primitive_slice, crate::specs::forms::Types::borrow, crate::specs::forms::Types::written_borrow, bridge_form::specs::Left::are_apart, bridge_form::specs::Keys::key_text))]
 fn primitive_slice(alloc: Global, value: Value) -> Result<TypeName, ReadFault>
     ensures { Gives result (primitive_slice.read (view value)) }
 {
@@ -153,8 +150,8 @@ fn primitive_slice(alloc: Global, value: Value) -> Result<TypeName, ReadFault>
         &[Key::Lifetime, Key::Mutable, Key::Of, Key::Std],
     )?;
     let borrow = borrow(alloc, &mut left)?;
-    let of = left.needed(alloc)?;
-    let std = left.flag(alloc)?;
+    let of = needed(alloc, &mut left)?;
+    let std = flag(alloc, &mut left)?;
     Ok(TypeName::PrimitiveSlice(borrow, of, spelling(std)))
 }
 
@@ -185,20 +182,20 @@ fn needed_type(
 
 /// `{"lifetime": lifetime, "mutable": bool, "to": type}`.
 #[cycle(types)]
-#[tactic(auto, unfolding(crate::specs::inside::Left::are_apart, crate::specs::Keys::key_text))]
+#[tactic(auto, unfolding(bridge_form::specs::Left::are_apart, bridge_form::specs::Keys::key_text))]
 fn reference_type(alloc: Global, value: Value, levels: usize) -> Result<TypeName, ReadFault>
     ensures { Gives result ((reference_type (type_within levels)).read (view value)) }
 {
     let mut left = Fields::of(alloc, value, &[Key::Lifetime, Key::Mutable, Key::To])?;
-    let lifetime = left.needed(alloc)?;
-    let mutable = left.flag(alloc)?;
+    let lifetime = needed(alloc, &mut left)?;
+    let mutable = flag(alloc, &mut left)?;
     let to = needed_type(alloc, &mut left, levels)?;
     Ok(TypeName::Reference(lifetime, mutability(mutable), to))
 }
 
 /// `{"ok": type, "err": type}`.
 #[cycle(types)]
-#[tactic(auto, unfolding(crate::specs::inside::Left::are_apart, crate::specs::Keys::key_text))]
+#[tactic(auto, unfolding(bridge_form::specs::Left::are_apart, bridge_form::specs::Keys::key_text))]
 fn result_type(
     alloc: Global,
     value: Value,
@@ -215,7 +212,7 @@ fn result_type(
 
 /// `{"lifetime": lifetime, "mutable": bool, "of": type, "std": bool}`.
 #[cycle(types)]
-#[tactic(auto, unfolding(crate::specs::forms::Types::borrow, crate::specs::forms::Types::written_borrow, crate::specs::inside::Left::are_apart, crate::specs::Keys::key_text))]
+#[tactic(auto, unfolding(crate::specs::forms::Types::borrow, crate::specs::forms::Types::written_borrow, bridge_form::specs::Left::are_apart, bridge_form::specs::Keys::key_text))]
 fn custom_slice(alloc: Global, value: Value, levels: usize) -> Result<TypeName, ReadFault>
     ensures { Gives result ((custom_slice (type_within levels)).read (view value)) }
 {
@@ -226,7 +223,7 @@ fn custom_slice(alloc: Global, value: Value, levels: usize) -> Result<TypeName, 
     )?;
     let borrow = borrow(alloc, &mut left)?;
     let of = needed_type(alloc, &mut left, levels)?;
-    let std = left.flag(alloc)?;
+    let std = flag(alloc, &mut left)?;
     Ok(TypeName::CustomTypeSlice(borrow, of, spelling(std)))
 }
 
@@ -280,14 +277,14 @@ fn type_or_unit(
 
 /// `{"params": [types], "ret": type, "mutable": bool}`.
 #[cycle(types)]
-#[tactic(auto, unfolding(crate::specs::inside::Left::are_apart, crate::specs::Keys::key_text))]
+#[tactic(auto, unfolding(bridge_form::specs::Left::are_apart, bridge_form::specs::Keys::key_text))]
 fn callback(alloc: Global, value: Value, levels: usize) -> Result<TypeName, ReadFault>
     ensures { Gives result ((callback (type_within levels)).read (view value)) }
 {
     let mut left = Fields::of(alloc, value, &[Key::Params, Key::Ret, Key::Mutable])?;
     let params = types_under(alloc, &mut left, levels)?;
     let ret = type_or_unit(alloc, &mut left, levels)?;
-    let mutable = left.flag(alloc)?;
+    let mutable = flag(alloc, &mut left)?;
     Ok(TypeName::Function(params, ret, mutability(mutable)))
 }
 
@@ -324,7 +321,7 @@ fn type_under(alloc: Global, key: Key, value: Value, levels: usize) -> Result<Ty
 
 /// A type in which types nest at most so deep.
 #[cycle(types)]
-#[tactic(auto, unfolding(crate::specs::inside::Left::are_apart, crate::specs::Keys::key_text))]
+#[tactic(auto, unfolding(bridge_form::specs::Left::are_apart, bridge_form::specs::Keys::key_text))]
 fn type_within(alloc: Global, value: Value, levels: usize) -> Result<TypeName, ReadFault>
     ensures { Gives result ((type_within levels).read (view value)) }
 {

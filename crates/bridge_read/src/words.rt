@@ -2,12 +2,12 @@
 
 ghost use Rattle.std.specs.Prelude.{◌≡◌};
 ghost use Rattle.serde_json.specs.View.{view};
-ghost use Rattle.bridge_read.specs.Form.{find_word, one_word};
-ghost use Rattle.bridge_read.specs.inside.Given.{Gives};
+ghost use Rattle.bridge_form.specs.Form.{find_word, one_word};
+ghost use Rattle.bridge_form.specs.Given.{Gives};
 
-use crate::fault::ReadFault;
 use crate::reading::{FromForm, text};
 use bridge_ast::{DocType, PrimitiveType, RustLinkDisplay, StringEncoding};
+use bridge_form::ReadFault;
 use serde_json::Value;
 use std::alloc::Global;
 

@@ -3,7 +3,7 @@ use Rattle.std.proofs.Common.{◌≡◌, ℕ, ◌<◌, true, false, List, [], �
 use Rattle.std.specs.Prelude.{◌⊎◌, String}
 use Rattle.std.specs.declared.alloc.Global.{Global}
 use Rattle.bridge_read.specs.Inputs.{IsToldOf, Refuses, SpellsInput}
-use Rattle.bridge_read.specs.declared.fault.InputKind.{InputKind}
+use Rattle.bridge_form.specs.declared.fault.InputKind.{InputKind}
 use Rattle.bridge_read.specs.declared.input.InputFault.{InputFault}
 use Rattle.bridge_read.specs.declared.input.InputFault.TheVariants.{NotDeclarations}
 use Rattle.bridge_tool.specs.Declining.{AreFaulty, fault_line}

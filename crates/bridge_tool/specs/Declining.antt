@@ -1,11 +1,11 @@
 -- Why bytes are declined, and the line that says so.
 use Rattle.std.specs.Prelude.{◌≡◌, ℕ, List, [], ◌++◌, codes}
-use Rattle.bridge_read.specs.declared.fault.InputKind.{InputKind}
-use Rattle.bridge_read.specs.declared.fault.InputKind.TheVariants.{NotJson}
+use Rattle.bridge_form.specs.declared.fault.InputKind.{InputKind}
+use Rattle.bridge_form.specs.declared.fault.InputKind.TheVariants.{NotJson}
 use Rattle.bridge_read.specs.declared.input.Input.{Input}
 use Rattle.bridge_read.specs.declared.input.InputFault.TheVariants.{NotDeclarations}
 use Rattle.bridge_read.specs.Inputs.{IsToldOf, SpellsInput}
-use Rattle.bridge_read.specs.Words.{kind_text}
+use Rattle.bridge_form.specs.KindTexts.{kind_text}
 
 abbrev pub at_pointer : List ℕ → List ℕ
 at_pointer pointer = codes " at \"" ++ (pointer ++ codes "\"")

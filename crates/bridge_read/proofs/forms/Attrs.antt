@@ -7,13 +7,13 @@ use Rattle.bridge_decl.specs.declared.attrs.DiplomatBackendAttrCfg.{DiplomatBack
 use Rattle.bridge_decl.specs.declared.attrs.DiplomatBackendAttrCfg.TheVariants as cfg
 use Rattle.bridge_decl.specs.declared.attrs.Lit.{Lit}
 use Rattle.bridge_decl.specs.declared.attrs.Lit.TheVariants as lit
-use Rattle.bridge_read.specs.declared.keys.Key.{Key}
-use Rattle.bridge_read.specs.declared.keys.Key.TheVariants as key
+use Rattle.bridge_form.specs.declared.keys.Key.{Key}
+use Rattle.bridge_form.specs.declared.keys.Key.TheVariants as key
 use Rattle.bridge_read.specs.forms.Attrs.{condition_called, condition_word, pair_condition, condition_keys, condition_within, condition, sole_char, digits_of, digits, literal_called, literal_word, any_float, literal_under, literal_keys, literal, assign_of, assign, mark_by, self, mark, pattern_of, pattern, attrs_of, attrs, condition_under}
-use Rattle.bridge_read.proofs.FormLaws.{Lawful}
-use Rattle.bridge_read.proofs.Proved.{Proved, List_of, Two, Object, Made, Needs, May_have, May_be, Never, ◌&&&◌, Refined, Text, Flag, Byte, Mapped, Some_list}
-use Rattle.bridge_read.specs.Form.{Form, one_of}
-use Rattle.bridge_read.proofs.ChoiceLaws.{word_or_lawful, one_of_lawful}
+use Rattle.bridge_form.proofs.FormLaws.{Lawful}
+use Rattle.bridge_form.proofs.Proved.{Proved, List_of, Two, Object, Made, Needs, May_have, May_be, Never, ◌&&&◌, Refined, Text, Flag, Byte, Mapped, Some_list}
+use Rattle.bridge_form.specs.Form.{Form, one_of}
+use Rattle.bridge_form.proofs.ChoiceLaws.{word_or_lawful, one_of_lawful}
 
 pub condition_word_lawful : Lawful condition_word
 unfolding condition_word

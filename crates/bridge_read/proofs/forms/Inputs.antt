@@ -1,12 +1,12 @@
 -- The laws of the form of a whole input.
 use Rattle.std.specs.Prelude.{List}
 use Rattle.bridge_decl.specs.declared.modules.Module.{Module}
-use Rattle.bridge_read.specs.declared.keys.Key.TheVariants as key
+use Rattle.bridge_form.specs.declared.keys.Key.TheVariants as key
 use Rattle.bridge_read.specs.forms.Inputs.{declared_of, no_backend, whole}
 use Rattle.bridge_read.specs.forms.Modules.{root}
 use Rattle.bridge_read.specs.forms.Settings.{no_config, no_urls}
-use Rattle.bridge_read.proofs.FormLaws.{Lawful}
-use Rattle.bridge_read.proofs.Proved.{Proved, Object, Made, Needs, May_be, ◌&&&◌}
+use Rattle.bridge_form.proofs.FormLaws.{Lawful}
+use Rattle.bridge_form.proofs.Proved.{Proved, Object, Made, Needs, May_be, ◌&&&◌}
 use Rattle.bridge_read.proofs.forms.Modules.{root_lawful}
 use Rattle.bridge_read.proofs.forms.Settings.{P_backend, P_config, P_urls}
 

@@ -4,10 +4,10 @@ use Rattle.bridge_decl.specs.declared.lifetimes.Lifetime.{Lifetime}
 use Rattle.bridge_decl.specs.declared.lifetimes.LifetimeNode.{LifetimeNode}
 use Rattle.bridge_decl.specs.declared.paths.PathType.{PathType}
 use Rattle.bridge_decl.specs.declared.types.Mutability.{Mutability}
-use Rattle.bridge_read.specs.declared.keys.Key.TheVariants as key
+use Rattle.bridge_form.specs.declared.keys.Key.TheVariants as key
 use Rattle.bridge_read.specs.forms.Lifetimes.{lifetime_called, lifetime, node_of, node, reference_of, reference, path_of, path}
-use Rattle.bridge_read.proofs.FormLaws.{Lawful}
-use Rattle.bridge_read.proofs.Proved.{Proved, List_of, Object, Made, Needs, May_be, ◌&&&◌, Text, Number, Flag, Mapped, Some_list}
+use Rattle.bridge_form.proofs.FormLaws.{Lawful}
+use Rattle.bridge_form.proofs.Proved.{Proved, List_of, Object, Made, Needs, May_be, ◌&&&◌, Text, Number, Flag, Mapped, Some_list}
 
 pub lifetime_lawful : Lawful lifetime
 unfolding lifetime

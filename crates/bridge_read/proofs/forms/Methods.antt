@@ -5,13 +5,13 @@ use Rattle.bridge_decl.specs.declared.methods.Param.{Param}
 use Rattle.bridge_decl.specs.declared.methods.SelfParam.{SelfParam}
 use Rattle.bridge_decl.specs.declared.traits.TraitMethod.{TraitMethod}
 use Rattle.bridge_decl.specs.declared.traits.TraitSelfParam.{TraitSelfParam}
-use Rattle.bridge_read.specs.declared.keys.Key.TheVariants as key
+use Rattle.bridge_form.specs.declared.keys.Key.TheVariants as key
 use Rattle.bridge_read.specs.declared.methods.MethodHead.{MethodHead}
 use Rattle.bridge_read.specs.declared.methods.Signature.{Signature}
 use Rattle.bridge_read.specs.declared.methods.TraitSignature.{TraitSignature}
 use Rattle.bridge_read.specs.forms.Methods.{param_of, param, receiver_of, receiver, signature_of, signature, head_of, method_head, method_of, method, trait_receiver_of, trait_receiver, trait_signature_of, trait_signature, trait_method_of, trait_method}
-use Rattle.bridge_read.proofs.FormLaws.{Lawful, LawfulParts}
-use Rattle.bridge_read.proofs.Proved.{Proved, ProvedParts, List_of, Object, Made, Needs, May_have, May_be, Grouped, ◌&&&◌, Text}
+use Rattle.bridge_form.proofs.FormLaws.{Lawful, LawfulParts}
+use Rattle.bridge_form.proofs.Proved.{Proved, ProvedParts, List_of, Object, Made, Needs, May_have, May_be, Grouped, ◌&&&◌, Text}
 use Rattle.bridge_read.specs.forms.Attrs.{no_attrs}
 use Rattle.bridge_read.proofs.forms.Attrs.{P_attrs}
 use Rattle.bridge_read.proofs.forms.Docs.{P_documented}

@@ -6,10 +6,10 @@ use Rattle.hir_backends.specs.declared.validator.BasicAttributeValidator.{BasicA
 use Rattle.hir_backends.specs.Support.{no_flags}
 use Rattle.hir_docs.specs.Urls.{BaseUrls}
 use Rattle.hir_config.specs.declared.config.LoweringConfig.{LoweringConfig}
-use Rattle.bridge_read.specs.declared.keys.Key.TheVariants as key
+use Rattle.bridge_form.specs.declared.keys.Key.TheVariants as key
 use Rattle.bridge_read.specs.forms.Settings.{flag_words, turned_on, support_flag, supported, pair_of, name_value, names_of, backend_names, backend_of, backend, config_of, config, entered, bases, urls_of, urls}
-use Rattle.bridge_read.proofs.FormLaws.{Lawful, LawfulParts}
-use Rattle.bridge_read.proofs.Proved.{Proved, ProvedParts, List_of, Object, Made, Needs, May_have, May_be, Dictionary, Grouped, ◌&&&◌, Text, Flag, Mapped, One_word}
+use Rattle.bridge_form.proofs.FormLaws.{Lawful, LawfulParts}
+use Rattle.bridge_form.proofs.Proved.{Proved, ProvedParts, List_of, Object, Made, Needs, May_have, May_be, Dictionary, Grouped, ◌&&&◌, Text, Flag, Mapped, One_word}
 
 pub support_flag_lawful : Lawful support_flag
 unfolding support_flag

@@ -11,9 +11,9 @@ use Rattle.bridge_decl.specs.declared.attrs.Lit.{Lit}
 use Rattle.bridge_decl.specs.declared.attrs.Lit.TheVariants as lit
 use Rattle.bridge_decl.specs.declared.attrs.MetaValue.{MetaValue}
 use Rattle.bridge_decl.specs.declared.attrs.MetaValue.TheVariants.{Empty, Literal, Assignments}
-use Rattle.bridge_read.specs.declared.keys.Key.{Key}
-use Rattle.bridge_read.specs.declared.keys.Key.TheVariants as key
-use Rattle.bridge_read.specs.Form.{Form, object_with, made, ◌&◌, needs, may_be, may_have, refined, mapped, word_or, one_of, never, list, some_list, two, text, flag, byte}
+use Rattle.bridge_form.specs.declared.keys.Key.{Key}
+use Rattle.bridge_form.specs.declared.keys.Key.TheVariants as key
+use Rattle.bridge_form.specs.Form.{Form, object_with, made, ◌&◌, needs, may_be, may_have, refined, mapped, word_or, one_of, never, list, some_list, two, text, flag, byte}
 
 -- ---- conditions
 

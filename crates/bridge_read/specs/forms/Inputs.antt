@@ -6,8 +6,8 @@ use Rattle.hir_backends.specs.declared.validator.BasicAttributeValidator.{BasicA
 use Rattle.hir_docs.specs.Urls.{BaseUrls}
 use Rattle.hir_config.specs.declared.config.LoweringConfig.{LoweringConfig}
 use Rattle.bridge_read.specs.declared.input.Declared.{Declared}
-use Rattle.bridge_read.specs.declared.keys.Key.TheVariants as key
-use Rattle.bridge_read.specs.Form.{Form, object_with, made, ◌&◌, needs, may_be}
+use Rattle.bridge_form.specs.declared.keys.Key.TheVariants as key
+use Rattle.bridge_form.specs.Form.{Form, object_with, made, ◌&◌, needs, may_be}
 use Rattle.bridge_read.specs.forms.Modules.{root}
 use Rattle.bridge_read.specs.forms.Settings.{backend, config, no_config, urls, no_urls}
 

@@ -7,8 +7,8 @@ use Rattle.bridge_decl.specs.declared.lifetimes.LifetimeNode.{LifetimeNode}
 use Rattle.bridge_decl.specs.declared.paths.PathType.{PathType}
 use Rattle.bridge_decl.specs.declared.types.Mutability.{Mutability}
 use Rattle.bridge_decl.specs.declared.types.Mutability.TheVariants.{Mutable, Immutable}
-use Rattle.bridge_read.specs.declared.keys.Key.TheVariants as key
-use Rattle.bridge_read.specs.Form.{Form, object_with, made, ◌&◌, needs, may_be, list, some_list, text, number_form, flag, mapped}
+use Rattle.bridge_form.specs.declared.keys.Key.TheVariants as key
+use Rattle.bridge_form.specs.Form.{Form, object_with, made, ◌&◌, needs, may_be, list, some_list, text, number_form, flag, mapped}
 
 -- `static`, `_` for an anonymous one, or a name
 unfoldable pub lifetime_called : List ℕ → Lifetime

@@ -12,11 +12,11 @@ use Rattle.bridge_decl.specs.declared.traits.TraitMethod.{TraitMethod}
 use Rattle.bridge_decl.specs.declared.traits.TraitSelfParam.{TraitSelfParam}
 use Rattle.bridge_decl.specs.declared.types.Mutability.{Mutability}
 use Rattle.bridge_decl.specs.declared.types.TypeName.{TypeName}
-use Rattle.bridge_read.specs.declared.keys.Key.TheVariants as key
+use Rattle.bridge_form.specs.declared.keys.Key.TheVariants as key
 use Rattle.bridge_read.specs.declared.methods.MethodHead.{MethodHead}
 use Rattle.bridge_read.specs.declared.methods.Signature.{Signature}
 use Rattle.bridge_read.specs.declared.methods.TraitSignature.{TraitSignature}
-use Rattle.bridge_read.specs.Form.{Form, Parts, object_with, made, ◌&◌, needs, may_be, may_have, grouped, list, text}
+use Rattle.bridge_form.specs.Form.{Form, Parts, object_with, made, ◌&◌, needs, may_be, may_have, grouped, list, text}
 use Rattle.bridge_read.specs.forms.Attrs.{attrs, no_attrs}
 use Rattle.bridge_read.specs.forms.Docs.{documented}
 use Rattle.bridge_read.specs.forms.Lifetimes.{node, path, reference}

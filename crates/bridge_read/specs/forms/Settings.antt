@@ -9,8 +9,8 @@ use Rattle.hir_backends.specs.declared.validator.BasicAttributeValidator.{BasicA
 use Rattle.hir_backends.specs.Support.{every_flag, flag_text, no_flags, with_flag}
 use Rattle.hir_docs.specs.Urls.{BaseUrls}
 use Rattle.hir_config.specs.declared.config.LoweringConfig.{LoweringConfig}
-use Rattle.bridge_read.specs.declared.keys.Key.TheVariants as key
-use Rattle.bridge_read.specs.Form.{Form, Parts, object_with, made, ◌&◌, needs, may_be, may_have, mapped, grouped, dictionary, list, text, flag, one_word}
+use Rattle.bridge_form.specs.declared.keys.Key.TheVariants as key
+use Rattle.bridge_form.specs.Form.{Form, Parts, object_with, made, ◌&◌, needs, may_be, may_have, mapped, grouped, dictionary, list, text, flag, one_word}
 
 -- ---- the backend
 

@@ -5,7 +5,7 @@ use Rattle.serde_json.specs.Data.{Data}
 use Rattle.bridge_ast.specs.EnvFaults.{faults_of}
 use Rattle.bridge_ast.specs.Sound.{AreSound}
 use Rattle.bridge_decl.specs.declared.modules.Module.{Module}
-use Rattle.bridge_read.specs.declared.fault.Fault.{Fault}
+use Rattle.bridge_form.specs.declared.fault.Fault.{Fault}
 use Rattle.bridge_read.specs.declared.input.Declared.{Declared}
 use Rattle.bridge_read.specs.declared.input.InputFault.{InputFault}
 use Rattle.bridge_read.specs.declared.input.InputFault.TheVariants.{NotDeclarations, NoMemory}

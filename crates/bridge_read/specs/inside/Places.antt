@@ -2,7 +2,7 @@
 use Rattle.std.specs.Prelude.{◌≡◌, ℕ, ◌+◌, List, length, slice_get, Some}
 use Rattle.bridge_read.specs.declared.places.Search.{Search}
 use Rattle.bridge_read.specs.declared.places.Search.TheVariants.{Found, Left}
-use Rattle.bridge_read.specs.declared.pointer.Step.{Step}
+use Rattle.bridge_form.specs.declared.pointer.Step.{Step}
 
 -- the search among these pointers for the one of a number: found, or so many are left to count after all of them
 abbrev pub Searches : List (List Step) → ℕ → Search → Type 0

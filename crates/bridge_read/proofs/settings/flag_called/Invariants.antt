@@ -1,6 +1,6 @@
 use Rattle.std.proofs.Common.{◌≡◌, map, take, None}
 use Rattle.hir_backends.specs.Support.{flag_text}
-use Rattle.bridge_read.specs.Form.{find_word}
+use Rattle.bridge_form.specs.Form.{find_word}
 use Rattle.bridge_read.proofs.settings.flag_called.Given as goal
 
 abbrev pub invariant-loop-flag : goal.invariant-loop-flag

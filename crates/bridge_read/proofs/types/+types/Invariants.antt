@@ -1,7 +1,7 @@
 use Rattle.std.proofs.Common.{◌≡◌, ◌+◌, ◌*◌}
 use Rattle.serde_json.specs.View.{items_view}
 use Rattle.std.specs.Vec.Iter.{into_iter_items}
-use Rattle.bridge_read.specs.Reading.{each_of}
+use Rattle.bridge_form.specs.Reading.{each_of}
 use Rattle.bridge_read.specs.forms.Types.{type_within}
 use Rattle.bridge_read.proofs.ListLemmas.{each_after}
 use Rattle.bridge_read.proofs.types.+types.Given as goal

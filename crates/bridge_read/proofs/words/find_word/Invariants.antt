@@ -1,5 +1,5 @@
 use Rattle.std.proofs.Common.{◌≡◌, take, None}
-use Rattle.bridge_read.specs.Form.{find_word}
+use Rattle.bridge_form.specs.Form.{find_word}
 use Rattle.bridge_read.specs.inside.Tables.{all_written}
 use Rattle.bridge_read.proofs.words.find_word.Given as goal
 

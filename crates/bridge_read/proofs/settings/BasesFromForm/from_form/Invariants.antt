@@ -1,6 +1,6 @@
 use Rattle.std.proofs.Common.{◌≡◌, []}
 use Rattle.serde_json.specs.View.{members_view}
-use Rattle.bridge_read.specs.Reading.{text_of}
+use Rattle.bridge_form.specs.Reading.{text_of}
 use Rattle.bridge_read.proofs.SettingLemmas.{entered_of}
 use Rattle.bridge_read.proofs.settings.BasesFromForm.from_form.Given as goal
 

@@ -1,0 +1,10 @@
+pub mod ChoiceLaws
+pub mod ChoiceLemmas
+pub mod DictionaryLaws
+pub mod FieldLemmas
+pub mod FormLaws
+pub mod NameLemmas
+pub mod ObjectLaws
+pub mod PairLaws
+pub mod PartLaws
+pub mod Proved

@@ -1,0 +1,12 @@
+use Rattle.std.proofs.Common.{◌≡◌, Some, None}
+use Rattle.std.specs.BTreeMap.IterMut.{iter_mut_rest}
+use Rattle.serde_json.specs.View.{members_view}
+use Rattle.bridge_form.specs.Choices.{tally_seen}
+use Rattle.bridge_form.specs.inside.Tallying.{tallied}
+use Rattle.bridge_form.proofs.choice.choice_in.Given as goal
+
+abbrev pub invariant-loop-name : goal.invariant-loop-name
+invariant-loop-name l =
+    (goal.iterator-loop-name).can_next l.name-iterator
+    × (goal.iterator-loop-name).is_finite l.name-iterator
+    × (tallied l.form (tally_seen l.choice) (members_view (iter_mut_rest l.name-iterator)) ≡ tallied l.form (Some None) (members_view l.fn.members.entries))

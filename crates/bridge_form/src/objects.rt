@@ -1,0 +1,96 @@
+//! Objects and lists of the form, whatever they spell.
+
+ghost use Rattle.std.specs.Prelude.{◌≡◌, option_map, Result};
+ghost use Rattle.serde_json.specs.View.{view, members_view};
+ghost use Rattle.bridge_form.specs.declared.fault.Fault.{Fault as Wrong};
+ghost use Rattle.bridge_form.specs.declared.pointer.Step.TheVariants as step;
+ghost use Rattle.bridge_form.specs.Form.{members_in, object_of};
+ghost use Rattle.bridge_form.specs.Reading.{at_key, inside, under};
+ghost use Rattle.bridge_form.specs.Given.{Gives, GivesBy};
+
+use crate::fault::ReadFault;
+use crate::keys::Key;
+use crate::pointer::Step;
+use bridge_text::Text;
+use serde_json::{Map, Value};
+use std::alloc::Global;
+
+/// What stands under a key of an object; none where the key is absent or null.
+#[tactic(auto, unfolding(crate::specs::Reading::under))]
+pub fn under(value: &Value, key: Key) -> Option<&Value>
+    ensures { option_map (λ v. view v.now) result ≡ under key (view value.now) }
+{
+    match value.get(key.text()) {
+        Some(found) if !found.is_null() => Some(found),
+        _ => None,
+    }
+}
+
+/// What was read of the value under a key of that name, or its fault as one of the object.
+#[inline(always)]
+pub fn in_member_named<T: Drop>(
+    alloc: Global,
+    name: &str,
+    read: Result<T, ReadFault>,
+) -> Result<T, ReadFault>
+    ensures { (was : Result T Wrong) → Gives read was
+        → Gives result (inside (step.Member name.now) was) }
+{
+    match read {
+        Ok(value) => Ok(value),
+        Err(ReadFault::Bad(fault)) => {
+            let step = Step::Member(Text::new(alloc, name)?);
+            Err(ReadFault::Bad(fault.within(step)?))
+        }
+        Err(ReadFault::NoMemory) => Err(ReadFault::NoMemory),
+    }
+}
+
+/// What was read of the value under a key, or its fault as one of the object.
+#[inline(always)]
+pub fn in_member<T: Drop>(
+    alloc: Global,
+    key: Key,
+    read: Result<T, ReadFault>,
+) -> Result<T, ReadFault>
+    ensures { (was : Result T Wrong) → Gives read was → Gives result (inside (at_key key) was) }
+{
+    in_member_named(alloc, key.text(), read)
+}
+
+/// What was read of an entry of a list, or its fault as one of the list.
+#[inline(always)]
+pub fn in_entry<T: Drop>(number: usize, read: Result<T, ReadFault>) -> Result<T, ReadFault>
+    ensures { (was : Result T Wrong) → Gives read was
+        → Gives result (inside (step.Index number) was) }
+{
+    match read {
+        Ok(value) => Ok(value),
+        Err(ReadFault::Bad(fault)) => Err(ReadFault::Bad(fault.within(Step::Index(number))?)),
+        Err(ReadFault::NoMemory) => Err(ReadFault::NoMemory),
+    }
+}
+
+/// The members of an object.
+#[tactic(auto, unfolding(crate::specs::Form::members_in))]
+pub fn members(alloc: Global, value: Value) -> Result<Map<String, Value>, ReadFault>
+    ensures { GivesBy (λ ms. members_view ms.entries) result (members_in (view value)) }
+{
+    match value {
+        Value::Object(members) => Ok(members),
+        Value::Null | Value::Bool(_) | Value::Number(_) | Value::String(_) | Value::Array(_) => {
+            Err(ReadFault::wrong_form(alloc))
+        }
+    }
+}
+
+/// Tests that the value is an object.
+#[tactic(auto, unfolding(crate::specs::Form::object_of))]
+pub fn object(alloc: Global, value: &Value) -> Result<(), ReadFault>
+    ensures { Gives result (object_of (view value.now)) }
+{
+    match value.as_object() {
+        Some(_) => Ok(()),
+        None => Err(ReadFault::wrong_form(alloc)),
+    }
+}

@@ -1,6 +1,0 @@
-use Rattle.std.proofs.Common.{◌≡◌, take, None}
-use Rattle.bridge_read.specs.inside.Left.{all_seen, place_of}
-use Rattle.bridge_read.proofs.fields.place_of.Given as goal
-
-abbrev pub invariant-loop-place : goal.invariant-loop-place
-invariant-loop-place l = place_of l.number (all_seen (take l.place l.members)) ≡ None
