@@ -1,5 +1,6 @@
 //! A realistic bridge, as it stands in `examples/`.
 
+use bridge_ast::Module;
 use bridge_read::read_input;
 use std::test::*;
 
@@ -143,17 +144,23 @@ const BRIDGE: &str = r#"{
   "docs": {"default": "https://docs.rs/", "bases": {"icu_parts": "https://parts.example/docs"}}
 }"#;
 
+/// Whether the modules' own names are these.
+fn have_names(modules: &[Module], names: &[&str]) -> bool {
+    for (module, name) in modules.iter().zip(names.iter()) {
+        let last = module.path.as_slice().last();
+        if last.map_or("", |segment| segment.as_str()) != *name {
+            return false;
+        }
+    }
+    modules.len() == names.len()
+}
+
 #[test]
 fn a_whole_bridge_is_read(rt: HostRuntime) -> Result<(), Fail> {
     let input = read_input(rt.alloc(), BRIDGE.as_bytes())
         .ok()
         .ok_or("an input")?;
-    let names = ["", "locale", "data"];
-    assert!(rt; input.env.modules().len() == names.len());
-    for (module, name) in input.env.modules().iter().zip(names.iter()) {
-        let last = module.path.as_slice().last();
-        assert!(rt; last.map_or("", |segment| segment.as_str()) == *name);
-    }
+    assert!(rt; have_names(input.env.modules(), &["", "locale", "data"]));
     assert!(rt; input.validator.support.iterators && !input.validator.support.accessors);
     Ok(())
 }

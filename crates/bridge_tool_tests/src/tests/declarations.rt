@@ -3,7 +3,6 @@
 
 use super::program::runs_to;
 use std::alloc::{AllocError, Global};
-use std::test::*;
 
 /// Root modules that break no rule, with their pages.
 const ACCEPTED: [(&str, &str); 14] = [
@@ -189,19 +188,26 @@ fn answers(
 }
 
 #[test]
-fn declarations_that_break_no_rule_have_their_page(rt: HostRuntime) -> Result<(), Fail> {
-    for (root, page) in ACCEPTED {
+fn declarations_that_break_no_rule_have_their_page(rt: HostRuntime) -> Result<(), AllocError> {
+    for (root, page) in &ACCEPTED {
         assert!(rt; answers(rt.alloc(), root, USUAL, 0, page)?, "{root}");
     }
     Ok(())
 }
 
 #[test]
-fn declarations_that_break_one_have_their_reports(rt: HostRuntime) -> Result<(), Fail> {
-    for (root, settings, lines) in REFUSED {
+fn declarations_that_break_one_have_their_reports(rt: HostRuntime) -> Result<(), AllocError> {
+    for (root, settings, lines) in &REFUSED {
         assert!(rt; answers(rt.alloc(), root, settings, 1, lines)?, "{root}");
     }
     Ok(())
+}
+
+/// Adds the name of the struct of a number.
+fn push_name(alloc: Global, text: &mut String, level: usize) -> Result<(), AllocError> {
+    text.push_str("\"D")?;
+    text.push_str(level.to_string(alloc)?.as_str())?;
+    text.push_str("\"")
 }
 
 /// A struct by its number, over the lifetime `'l`; before the first stands a reference to the opaque.
@@ -212,21 +218,28 @@ fn held(alloc: Global, level: usize) -> Result<String, AllocError> {
             r#"{"ref":{"lifetime":"l","to":{"named":{"segments":["O"]}}}}"#,
         );
     }
-    let mut ty = String::from_str(alloc, r#"{"named":{"segments":["D"#)?;
-    ty.push_str(level.to_string(alloc)?.as_str())?;
-    ty.push_str(r#""],"lifetimes":["l"]}}"#)?;
+    let mut ty = String::from_str(alloc, r#"{"named":{"segments":["#)?;
+    push_name(alloc, &mut ty, level)?;
+    ty.push_str(r#"],"lifetimes":["l"]}}"#)?;
     Ok(ty)
+}
+
+/// Adds fields `a` and `b` of that type.
+fn push_fields(root: &mut String, ty: &str) -> Result<(), AllocError> {
+    root.push_str(r#"[{"name":"a","ty":"#)?;
+    root.push_str(ty)?;
+    root.push_str(r#"},{"name":"b","ty":"#)?;
+    root.push_str(ty)?;
+    root.push_str("}]")
 }
 
 /// Adds the struct of a number, which holds a type twice.
 fn push_struct(alloc: Global, root: &mut String, level: usize, ty: &str) -> Result<(), AllocError> {
-    root.push_str(r#",{"kind":"struct","name":"D"#)?;
-    root.push_str(level.to_string(alloc)?.as_str())?;
-    root.push_str(r#"","lifetimes":[{"name":"l"}],"fields":[{"name":"a","ty":"#)?;
-    root.push_str(ty)?;
-    root.push_str(r#"},{"name":"b","ty":"#)?;
-    root.push_str(ty)?;
-    root.push_str("}]}")
+    root.push_str(r#",{"kind":"struct","name":"#)?;
+    push_name(alloc, root, level)?;
+    root.push_str(r#","lifetimes":[{"name":"l"}],"fields":"#)?;
+    push_fields(root, ty)?;
+    root.push_str("}")
 }
 
 /// Adds the function that takes a type and returns a reference to the opaque.
@@ -250,33 +263,49 @@ fn doubled(alloc: Global, depth: usize) -> Result<String, AllocError> {
     Ok(root)
 }
 
-/// The page of the function over the tenth: its paths are the numbers to 1,023 as ten binary digits, 0 as `a` and 1 as `b`.
+/// Adds the path of a number, as ten binary digits: 0 is `a` and 1 is `b`.
+fn push_path(page: &mut String, number: u32) -> Result<(), AllocError> {
+    page.push_str("p")?;
+    for place in 0u32..10 {
+        let is_a = (number >> (9 - place)) & 1 == 0;
+        page.push_str(if is_a { ".a" } else { ".b" })?;
+    }
+    Ok(())
+}
+
+/// The page of the function over the tenth: its paths are the numbers to 1,023.
 fn page_of_ten(alloc: Global) -> Result<String, AllocError> {
     let mut page = String::from_str(alloc, "callable f\n  lifetime 0 l: ")?;
     for number in 0u32..1024 {
-        if number > 0 {
-            page.push_str(", ")?;
-        }
-        page.push_str("p")?;
-        for place in 0u32..10 {
-            page.push_str(if (number >> (9 - place)) & 1 == 0 {
-                ".a"
-            } else {
-                ".b"
-            })?;
-        }
+        page.push_str(if number > 0 { ", " } else { "" })?;
+        push_path(&mut page, number)?;
     }
     page.push_str("\n  edges: struct p 0\nok 1\n")?;
     Ok(page)
 }
 
+/// Whether the function over the struct of that depth is answered so.
+fn doubled_answers(
+    alloc: Global,
+    depth: usize,
+    status: u8,
+    text: &str,
+) -> Result<bool, AllocError> {
+    let root = doubled(alloc, depth)?;
+    answers(alloc, root.as_str(), USUAL, status, text)
+}
+
 #[test]
-fn leaves_are_told_up_to_their_limit(rt: HostRuntime) -> Result<(), Fail> {
-    let alloc = rt.alloc();
-    let page = page_of_ten(alloc)?;
-    assert!(rt; answers(alloc, doubled(alloc, 10)?.as_str(), USUAL, 0, page.as_str())?);
+fn leaves_are_told(rt: HostRuntime) -> Result<(), AllocError> {
+    let page = page_of_ten(rt.alloc())?;
+    assert!(rt; doubled_answers(rt.alloc(), 10, 0, page.as_str())?);
+    Ok(())
+}
+
+#[test]
+fn leaves_beyond_their_limit_are_reported(rt: HostRuntime) -> Result<(), AllocError> {
     let lines =
         "Lowering error in f\n  TooManyLeaves: more than 1048576 borrowed leaves\nrefused 1\n";
-    assert!(rt; answers(alloc, doubled(alloc, 21)?.as_str(), USUAL, 1, lines)?);
+    assert!(rt; doubled_answers(rt.alloc(), 21, 1, lines)?);
     Ok(())
 }

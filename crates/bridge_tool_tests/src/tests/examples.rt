@@ -1,7 +1,7 @@
 //! The larger examples that are checked whole, as they stand in `examples/`.
 
 use super::program::runs_to;
-use std::test::*;
+use std::alloc::AllocError;
 
 /// Nested modules with aliases: examples/nested.json.
 const NESTED: &str = r#"{"root": {
@@ -171,23 +171,29 @@ const BROKEN_NESTING: &str = r#"{"backend": {"name": "tests", "supports": ["opti
 const BROKEN_NESTING_LINES: &str =
     "Lowering error in Folder\n  StructContainsItself: struct contains itself\nLowering error in Entry\n  StructContainsItself: struct contains itself\nrefused 2\n";
 
+/// Those that break a rule, with their lines.
+const REFUSED: [(&str, &str); 3] = [
+    (BROKEN, BROKEN_LINES),
+    (BROKEN_TYPES, BROKEN_TYPES_LINES),
+    (BROKEN_NESTING, BROKEN_NESTING_LINES),
+];
+
 #[test]
-fn nested_modules_have_their_page(rt: HostRuntime) -> Result<(), Fail> {
+fn nested_modules_have_their_page(rt: HostRuntime) -> Result<(), AllocError> {
     assert!(rt; runs_to(rt.alloc(), &[], NESTED, 0, NESTED_PAGE)?);
     Ok(())
 }
 
 #[test]
-fn structs_and_texts_have_their_page(rt: HostRuntime) -> Result<(), Fail> {
+fn structs_and_texts_have_their_page(rt: HostRuntime) -> Result<(), AllocError> {
     assert!(rt; runs_to(rt.alloc(), &[], SEARCH, 0, SEARCH_PAGE)?);
     Ok(())
 }
 
 #[test]
-fn broken_bridges_have_their_reports(rt: HostRuntime) -> Result<(), Fail> {
-    let alloc = rt.alloc();
-    assert!(rt; runs_to(alloc, &[], BROKEN, 1, BROKEN_LINES)?);
-    assert!(rt; runs_to(alloc, &[], BROKEN_TYPES, 1, BROKEN_TYPES_LINES)?);
-    assert!(rt; runs_to(alloc, &[], BROKEN_NESTING, 1, BROKEN_NESTING_LINES)?);
+fn broken_bridges_have_their_reports(rt: HostRuntime) -> Result<(), AllocError> {
+    for (input, lines) in &REFUSED {
+        assert!(rt; runs_to(rt.alloc(), &[], input, 1, lines)?, "{lines}");
+    }
     Ok(())
 }

@@ -2,7 +2,8 @@
 
 use super::inputs::PICK;
 use super::program::runs_to;
-use std::test::*;
+use std::alloc::{AllocError, Global};
+use std::process::Abort;
 
 // `f<'a, 'b: 'a>(x: &'a O, y: &'b O)`, of which the first returns `&'a O` and the second `&'b O`.
 const SHORT: &str =
@@ -37,8 +38,16 @@ const BROKEN: &str = r#"{"root":{"items":[{"kind":"opaque","name":"match"}]}}"#;
 const BROKEN_LINES: &str =
     "Lowering error in match\n  BadIdent: match is not a Rust identifier\nLowering error in match\n  BadIdent: match is not a Rust identifier\nrefused 2\n";
 
-// Inputs with a callable, a leaf and a lifetime, and the explanation.
-const EXPLAINED: [(&str, &str, &str, &str, &str); 9] = [
+/// An input, a callable, a leaf and a lifetime, and the explanation.
+type Row = (
+    &'static str,
+    &'static str,
+    &'static str,
+    &'static str,
+    &'static str,
+);
+
+const EXPLAINED: [Row; 9] = [
     (SHORT, "f", "y", "0", "chain 1 0\n"),
     (SHORT, "f", "x", "0", "chain 0\n"),
     (LONG, "f", "x", "1", "long 1\n"),
@@ -53,8 +62,8 @@ const EXPLAINED: [(&str, &str, &str, &str, &str); 9] = [
     (BESIDE_STATIC, "f", "q", "0", "chain 1 0\n"),
 ];
 
-// The same, where bounds are on the way.
-const BY_BOUNDS: [(&str, &str, &str, &str, &str); 6] = [
+// Where bounds are on the way.
+const BY_BOUNDS: [Row; 6] = [
     (BESIDE_STATIC, "f", "r", "0", "long 0 1\n"),
     (RING, "f", "x", "0", "chain 0\n"),
     (RING, "f", "y", "0", "chain 1 2 0\n"),
@@ -70,100 +79,82 @@ const BY_BOUNDS: [(&str, &str, &str, &str, &str); 6] = [
 ];
 
 // Inputs with names and lifetimes of which one is none of the page.
-const UNNAMED: [(&str, &str, &str, &str); 14] = [
-    (SHORT, "f", "z", "0"),
-    (SHORT, "f", "xx", "0"),
-    (SHORT, "f", "", "0"),
-    (SHORT, "f", "this", "0"),
-    (SHORT, "g", "y", "0"),
-    (SHORT, "", "y", "0"),
-    (SHORT, "O::f", "y", "0"),
-    (SHORT, "ff", "y", "0"),
-    (SHORT, "f", "y", "1"),
-    (SHORT, "f", "y", "4294967295"),
-    (PICK, "pick", "y", "0"),
-    (PICK, "O::pick::y", "y", "0"),
+const UNNAMED: [Row; 14] = [
+    (SHORT, "f", "z", "0", ""),
+    (SHORT, "f", "xx", "0", ""),
+    (SHORT, "f", "", "0", ""),
+    (SHORT, "f", "this", "0", ""),
+    (SHORT, "g", "y", "0", ""),
+    (SHORT, "", "y", "0", ""),
+    (SHORT, "O::f", "y", "0", ""),
+    (SHORT, "ff", "y", "0", ""),
+    (SHORT, "f", "y", "1", ""),
+    (SHORT, "f", "y", "4294967295", ""),
+    (PICK, "pick", "y", "0", ""),
+    (PICK, "O::pick::y", "y", "0", ""),
     // The first callable of a name returns nothing.
-    (NESTED, "m::O::g", "p.o", "0"),
-    (NESTED, "O::h", "q", "0"),
+    (NESTED, "m::O::g", "p.o", "0", ""),
+    (NESTED, "O::h", "q", "0", ""),
 ];
 
 // Words that are no number of the form.
 const NOT_NUMBERS: [&str; 8] = ["00", "01", "+0", "-0", "", "4294967296", "0x0", " 0"];
 
-#[test]
-fn explanations_are_those_worked_out(rt: HostRuntime) -> Result<(), Fail> {
-    for (input, callable, leaf, number, text) in EXPLAINED {
-        assert!(rt;
-            runs_to(
-                rt.alloc(),
-                &["explain", callable, leaf, number],
-                input,
-                0,
-                text
-            )?,
-            "{leaf}"
-        );
+/// Tests that the explanations of all rows end with the status.
+fn compare(rt: &impl Abort, alloc: Global, status: u8, rows: &[Row]) -> Result<(), AllocError> {
+    for (input, callable, leaf, number, text) in rows {
+        let words = ["explain", *callable, *leaf, *number];
+        assert!(rt; runs_to(alloc, &words, input, status, text)?, "{leaf}");
     }
     Ok(())
 }
 
 #[test]
-fn explanations_follow_the_bounds(rt: HostRuntime) -> Result<(), Fail> {
-    for (input, callable, leaf, number, text) in BY_BOUNDS {
-        assert!(rt;
-            runs_to(
-                rt.alloc(),
-                &["explain", callable, leaf, number],
-                input,
-                0,
-                text
-            )?,
-            "{leaf}"
-        );
-    }
-    Ok(())
+fn explanations_are_those_worked_out(rt: HostRuntime) -> Result<(), AllocError> {
+    compare(&rt, rt.alloc(), 0, &EXPLAINED)
 }
 
 #[test]
-fn what_is_not_on_the_page_is_not_explained(rt: HostRuntime) -> Result<(), Fail> {
-    for (input, callable, leaf, number) in UNNAMED {
-        assert!(rt;
-            runs_to(
-                rt.alloc(),
-                &["explain", callable, leaf, number],
-                input,
-                6,
-                ""
-            )?,
-            "{leaf}"
-        );
-    }
-    for number in NOT_NUMBERS {
-        assert!(rt;
-            runs_to(rt.alloc(), &["explain", "f", "y", number], SHORT, 6, "")?,
-            "{number}"
-        );
+fn explanations_follow_the_bounds(rt: HostRuntime) -> Result<(), AllocError> {
+    compare(&rt, rt.alloc(), 0, &BY_BOUNDS)
+}
+
+#[test]
+fn what_is_not_on_the_page_is_not_explained(rt: HostRuntime) -> Result<(), AllocError> {
+    compare(&rt, rt.alloc(), 6, &UNNAMED)
+}
+
+#[test]
+fn what_is_no_number_is_not_explained(rt: HostRuntime) -> Result<(), AllocError> {
+    for number in &NOT_NUMBERS {
+        let words = ["explain", "f", "y", *number];
+        assert!(rt; runs_to(rt.alloc(), &words, SHORT, 6, "")?, "{number}");
     }
     Ok(())
 }
 
 // Reports come instead of an explanation, and so does the line on an input that is none.
 #[test]
-fn what_is_not_accepted_is_not_explained(rt: HostRuntime) -> Result<(), Fail> {
+fn what_is_not_accepted_is_not_explained(rt: HostRuntime) -> Result<(), AllocError> {
     let words = ["explain", "f", "y", "0"];
     assert!(rt; runs_to(rt.alloc(), &words, BROKEN, 1, BROKEN_LINES)?);
     assert!(rt; runs_to(rt.alloc(), &words, "", 2, "input: not JSON\n")?);
     Ok(())
 }
 
+// Words that are no command, since one lacks, one is too many, or the first is another.
+const NO_COMMANDS: [&[&str]; 5] = [
+    &["explain"],
+    &["explain", "f", "y"],
+    &["explain", "f", "y", "0", "0"],
+    &["Explain", "f", "y", "0"],
+    &["check", "f", "y", "0"],
+];
+
 #[test]
-fn explanations_need_their_words(rt: HostRuntime) -> Result<(), Fail> {
-    let alloc = rt.alloc();
-    assert!(rt; runs_to(alloc, &["explain"], SHORT, 6, "")?);
-    assert!(rt; runs_to(alloc, &["explain", "f", "y"], SHORT, 6, "")?);
-    assert!(rt; runs_to(alloc, &["explain", "f", "y", "0", "0"], SHORT, 6, "")?);
-    assert!(rt; runs_to(alloc, &["Explain", "f", "y", "0"], SHORT, 6, "")?);
-    assert!(rt; runs_to(alloc, &["check", "f", "y", "0"], SHORT, 6, "")?);
+fn explanations_need_their_words(rt: HostRuntime) -> Result<(), AllocError> {
+    for (row, words) in NO_COMMANDS.iter().enumerate() {
+        assert!(rt; runs_to(rt.alloc(), words, SHORT, 6, "")?, "in row {row}");
+    }
     Ok(())
 }

@@ -6,7 +6,6 @@ use bridge_generate::generated;
 use bridge_summary::print_summary;
 use bridge_tool::{MemSink, MemSource, PlainSink, lower_and_borrow, read_input, run};
 use std::alloc::{AllocError, Global};
-use std::test::*;
 
 // No declaration, and a backend with functions outside of types.
 const FUNCTIONS: &str = r#"{"root":{},"backend":{"supports":["free_functions"]}}"#;
@@ -27,16 +26,16 @@ fn sum_up_to(alloc: Global, env: &Env, text: &str) -> Result<bool, AllocError> {
 }
 
 #[test]
-fn generated_declarations_break_no_rule(rt: HostRuntime) -> Result<(), Fail> {
-    let alloc = rt.alloc();
-    assert!(rt; sum_up_to(alloc, &generated(alloc, 8)?, "callables 8\nlisted 44\nok\n")?);
-    assert!(rt;
-        sum_up_to(
-            alloc,
-            &generated(alloc, 10000)?,
-            "callables 10000\nlisted 55000\nok\n"
-        )?
-    );
+fn eight_generated_break_no_rule(rt: HostRuntime) -> Result<(), AllocError> {
+    let env = generated(rt.alloc(), 8)?;
+    assert!(rt; sum_up_to(rt.alloc(), &env, "callables 8\nlisted 44\nok\n")?);
+    Ok(())
+}
+
+#[test]
+fn ten_thousand_generated_break_no_rule(rt: HostRuntime) -> Result<(), AllocError> {
+    let env = generated(rt.alloc(), 10000)?;
+    assert!(rt; sum_up_to(rt.alloc(), &env, "callables 10000\nlisted 55000\nok\n")?);
     Ok(())
 }
 
@@ -50,15 +49,22 @@ const SUMMARIES: [(&str, &str); 5] = [
 ];
 
 #[test]
-fn made_declarations_are_summed_up(rt: HostRuntime) -> Result<(), Fail> {
-    for (count, text) in SUMMARIES {
+fn made_declarations_are_summed_up(rt: HostRuntime) -> Result<(), AllocError> {
+    for (count, text) in &SUMMARIES {
         assert!(rt;
-            runs_to(rt.alloc(), &["gen", count], "", 0, text)?,
+            runs_to(rt.alloc(), &["gen", *count], "", 0, text)?,
             "{count}"
         );
-        // Whatever the input is, it isn't read.
+    }
+    Ok(())
+}
+
+// Whatever the input is, it isn't read.
+#[test]
+fn nothing_is_read_where_declarations_are_made(rt: HostRuntime) -> Result<(), AllocError> {
+    for (count, text) in &SUMMARIES {
         assert!(rt;
-            runs_to(rt.alloc(), &["gen", count], "{", 0, text)?,
+            runs_to(rt.alloc(), &["gen", *count], "{", 0, text)?,
             "{count}"
         );
     }
@@ -84,19 +90,33 @@ const NO_COUNTS: [&str; 14] = [
 ];
 
 #[test]
-fn counts_are_from_1_to_10000(rt: HostRuntime) -> Result<(), Fail> {
-    let alloc = rt.alloc();
-    for count in NO_COUNTS {
+fn counts_are_from_1_to_10000(rt: HostRuntime) -> Result<(), AllocError> {
+    for count in &NO_COUNTS {
         assert!(rt;
-            runs_to(alloc, &["gen", count], FUNCTIONS, 6, "")?,
+            runs_to(rt.alloc(), &["gen", *count], FUNCTIONS, 6, "")?,
             "{count}"
         );
     }
-    assert!(rt; runs_to(alloc, &["gen"], FUNCTIONS, 6, "")?);
-    assert!(rt; runs_to(alloc, &["Gen", "8"], FUNCTIONS, 6, "")?);
-    assert!(rt; runs_to(alloc, &["gen", "8", "8"], FUNCTIONS, 6, "")?);
-    assert!(rt; runs_to(alloc, &["8", "gen"], FUNCTIONS, 6, "")?);
-    assert!(rt; runs_to(alloc, &["check", "8"], FUNCTIONS, 6, "")?);
+    Ok(())
+}
+
+// Words that are no command, since the number lacks, one is too many, or one is another.
+const NO_COMMANDS: [&[&str]; 5] = [
+    &["gen"],
+    &["Gen", "8"],
+    &["gen", "8", "8"],
+    &["8", "gen"],
+    &["check", "8"],
+];
+
+#[test]
+fn gen_needs_its_words(rt: HostRuntime) -> Result<(), AllocError> {
+    for (row, words) in NO_COMMANDS.iter().enumerate() {
+        assert!(rt;
+            runs_to(rt.alloc(), words, FUNCTIONS, 6, "")?,
+            "in row {row}"
+        );
+    }
     Ok(())
 }
 
@@ -112,13 +132,14 @@ fn over_failing(alloc: Global, write: usize) -> Result<Option<(u8, usize)>, Allo
     Ok(Some((end, sink.bytes().len())))
 }
 
-// The summary has 25 bytes: in pieces of 10, three writes.
+// The writes that fail, with the status and the bytes taken. The summary has 25 bytes: in pieces of 10, three writes.
+const FAILING: [(usize, u8, usize); 4] = [(3, 0, 25), (0, 4, 0), (1, 4, 10), (2, 4, 20)];
+
 #[test]
-fn no_read_fails_where_nothing_is_read(rt: HostRuntime) -> Result<(), Fail> {
-    let alloc = rt.alloc();
-    assert!(rt; over_failing(alloc, 3)? == Some((0, 25)));
-    assert!(rt; over_failing(alloc, 0)? == Some((4, 0)));
-    assert!(rt; over_failing(alloc, 1)? == Some((4, 10)));
-    assert!(rt; over_failing(alloc, 2)? == Some((4, 20)));
+fn no_read_fails_where_nothing_is_read(rt: HostRuntime) -> Result<(), AllocError> {
+    for (write, status, taken) in &FAILING {
+        let end = over_failing(rt.alloc(), *write)?;
+        assert_eq!(rt; end, Some((*status, *taken)), "write {write}");
+    }
     Ok(())
 }

@@ -1,7 +1,7 @@
 //! Pages of links, worked out by hand.
 
 use super::program::runs_to;
-use std::test::*;
+use std::alloc::AllocError;
 
 // Inputs with the status and the text that belong to them.
 const LINKS: [(&str, u8, &str); 9] = [
@@ -52,22 +52,28 @@ const LINKS: [(&str, u8, &str); 9] = [
 ];
 
 #[test]
-fn pages_of_links_are_those_worked_out(rt: HostRuntime) -> Result<(), Fail> {
-    for (input, status, text) in LINKS {
+fn pages_of_links_are_those_worked_out(rt: HostRuntime) -> Result<(), AllocError> {
+    for (input, status, text) in &LINKS {
         assert!(rt;
-            runs_to(rt.alloc(), &["links"], input, status, text)?,
+            runs_to(rt.alloc(), &["links"], input, *status, text)?,
             "{input}"
         );
     }
     Ok(())
 }
 
+// Words with their status and text.
+const WORDS: [(&[&str], u8, &str); 3] = [
+    (&["links"], 0, "links 0\n"),
+    (&["Links"], 6, ""),
+    (&["links", "check"], 6, ""),
+];
+
 #[test]
-fn links_is_one_word(rt: HostRuntime) -> Result<(), Fail> {
-    let alloc = rt.alloc();
-    let input = r#"{"root":{}}"#;
-    assert!(rt; runs_to(alloc, &["links"], input, 0, "links 0\n")?);
-    assert!(rt; runs_to(alloc, &["Links"], input, 6, "")?);
-    assert!(rt; runs_to(alloc, &["links", "check"], input, 6, "")?);
+fn links_is_one_word(rt: HostRuntime) -> Result<(), AllocError> {
+    for (row, (words, status, text)) in WORDS.iter().enumerate() {
+        let is_so = runs_to(rt.alloc(), words, r#"{"root":{}}"#, *status, text)?;
+        assert!(rt; is_so, "in row {row}");
+    }
     Ok(())
 }

@@ -3,7 +3,6 @@
 use super::inputs::{INPUTS, NOT_JSON, PICK, PICK_PAGE};
 use bridge_tool::{MemSink, MemSource, PlainSink, PlainSource, run};
 use std::alloc::{AllocError, Global};
-use std::test::*;
 
 /// The words of a command line.
 pub fn words_of(alloc: Global, texts: &[&str]) -> Result<Vec<String>, AllocError> {
@@ -30,21 +29,30 @@ pub fn runs_to(
 }
 
 #[test]
-fn inputs_have_their_answers(rt: HostRuntime) -> Result<(), Fail> {
-    for (input, status, text) in INPUTS {
-        assert!(rt; runs_to(rt.alloc(), &[], input, status, text)?, "{input}");
+fn inputs_have_their_answers(rt: HostRuntime) -> Result<(), AllocError> {
+    for (input, status, text) in &INPUTS {
+        assert!(rt; runs_to(rt.alloc(), &[], input, *status, text)?, "{input}");
     }
     Ok(())
 }
 
+// Words with their status and text.
+const WORDS: [(&[&str], u8, &str); 5] = [
+    (&["check"], 0, PICK_PAGE),
+    (&["chek"], 6, ""),
+    (&["Check"], 6, ""),
+    (&[""], 6, ""),
+    (&["check", "check"], 6, ""),
+];
+
 #[test]
-fn words_are_compared_exactly(rt: HostRuntime) -> Result<(), Fail> {
-    let alloc = rt.alloc();
-    assert!(rt; runs_to(alloc, &["check"], PICK, 0, PICK_PAGE)?);
-    assert!(rt; runs_to(alloc, &["chek"], PICK, 6, "")?);
-    assert!(rt; runs_to(alloc, &["Check"], PICK, 6, "")?);
-    assert!(rt; runs_to(alloc, &[""], PICK, 6, "")?);
-    assert!(rt; runs_to(alloc, &["check", "check"], PICK, 6, "")?);
+fn words_are_compared_exactly(rt: HostRuntime) -> Result<(), AllocError> {
+    for (row, (words, status, text)) in WORDS.iter().enumerate() {
+        assert!(rt;
+            runs_to(rt.alloc(), words, PICK, *status, text)?,
+            "in row {row}"
+        );
+    }
     Ok(())
 }
 
@@ -64,34 +72,34 @@ fn over_failing(
     Ok(Some((end, sink.bytes().len())))
 }
 
-// The input has 392 bytes and its page 77: in pieces of 16, 25 reads and one that finds the end, and 5 writes.
+// Lengths of pieces, the read and the write that fail, the status, and the bytes taken. The input has 392 bytes and its page 77: in
+// pieces of 16, 25 reads and one that finds the end, and 5 writes.
+const FAILING: [(usize, usize, usize, u8, usize); 17] = [
+    (1, 999, 999, 0, 77),
+    (2, 999, 999, 0, 77),
+    (3, 999, 999, 0, 77),
+    (16, 999, 999, 0, 77),
+    (64, 999, 999, 0, 77),
+    (1000, 999, 999, 0, 77),
+    (16, 0, 999, 3, 0),
+    (16, 7, 999, 3, 0),
+    (16, 25, 999, 3, 0),
+    (16, 26, 999, 0, 77),
+    (16, 999, 0, 4, 0),
+    (16, 999, 1, 4, 16),
+    (16, 999, 2, 4, 32),
+    (16, 999, 3, 4, 48),
+    (16, 999, 4, 4, 64),
+    (16, 999, 5, 0, 77),
+    (16, 0, 0, 3, 0),
+];
+
 #[test]
-fn failing_calls_have_their_status(rt: HostRuntime) -> Result<(), Fail> {
-    let alloc = rt.alloc();
-    for piece in [1, 2, 3, 16, 64, 1000] {
-        assert_eq!(rt;
-            over_failing(alloc, piece, 999, 999)?,
-            Some((0, 77)),
-            "pieces of {piece}"
-        );
+fn failing_calls_have_their_status(rt: HostRuntime) -> Result<(), AllocError> {
+    for (row, (piece, read, write, status, taken)) in FAILING.iter().enumerate() {
+        let end = over_failing(rt.alloc(), *piece, *read, *write)?;
+        assert_eq!(rt; end, Some((*status, *taken)), "in row {row}");
     }
-    for read in [0, 7, 25] {
-        assert_eq!(rt;
-            over_failing(alloc, 16, read, 999)?,
-            Some((3, 0)),
-            "read {read}"
-        );
-    }
-    assert!(rt; over_failing(alloc, 16, 26, 999)? == Some((0, 77)));
-    for write in 0..5 {
-        assert_eq!(rt;
-            over_failing(alloc, 16, 999, write)?,
-            Some((4, 16 * write)),
-            "write {write}"
-        );
-    }
-    assert!(rt; over_failing(alloc, 16, 999, 5)? == Some((0, 77)));
-    assert!(rt; over_failing(alloc, 16, 0, 0)? == Some((3, 0)));
     Ok(())
 }
 
@@ -109,7 +117,7 @@ fn run_on_spaces(alloc: Global, count: usize, text: &str) -> Result<Option<u8>, 
 }
 
 #[test]
-fn two_to_the_26_bytes_are_read_and_no_more(rt: HostRuntime) -> Result<(), Fail> {
+fn two_to_the_26_bytes_are_read_and_no_more(rt: HostRuntime) -> Result<(), AllocError> {
     let most = 1 << 26;
     assert!(rt; run_on_spaces(rt.alloc(), most, NOT_JSON)? == Some(2));
     assert!(rt; run_on_spaces(rt.alloc(), most + 1, "")? == Some(7));
