@@ -51,12 +51,12 @@ fn stopped(field: &BorrowingField<'_>, at: usize) -> Result<(), usize> {
     })
 }
 
-/// Compares the names of a leaf, `whole_a.inner.text`.
-fn compare_names(rt: &impl Abort, field: &BorrowingField<'_>) {
-    assert!(rt; backtraced(field) == (3, 4));
-    assert!(rt; stopped(field, 0) == Err(7));
-    assert!(rt; stopped(field, 1) == Err(5));
-    assert!(rt; stopped(field, 3) == Ok(()));
+/// Whether the names of a leaf are those of `whole_a.inner.text`.
+fn are_names(field: &BorrowingField<'_>) -> bool {
+    backtraced(field) == (3, 4)
+        && stopped(field, 0) == Err(7)
+        && stopped(field, 1) == Err(5)
+        && stopped(field, 3) == Ok(())
 }
 
 /// How often the lifetime of this number is visited with a leaf.
@@ -71,23 +71,20 @@ fn visits(visitor: &BorrowingFieldVisitor<'_>, number: usize) -> usize {
     count
 }
 
-/// Compares all that is called at leaves.
-fn compare_calls(rt: &impl Abort, visitor: &BorrowingFieldVisitor<'_>) {
+/// Whether this is called at leaves: `page` carries both lifetimes, and the others the second alone.
+fn are_calls(visitor: &BorrowingFieldVisitor<'_>) -> bool {
     match visitor.get(0) {
-        Some(field) => compare_names(rt, &field),
-        None => assert!(rt; false),
+        Some(field) => are_names(&field) && visits(visitor, 0) == 1 && visits(visitor, 1) == 3,
+        None => false,
     }
-    // `page` carries both lifetimes, and the others the second alone.
-    assert!(rt; visits(visitor, 0) == 1);
-    assert!(rt; visits(visitor, 1) == 3);
 }
 
-/// The same for the function of a context.
+/// Compares what is called for the function of a context.
 fn compare(rt: &impl Abort, alloc: Global, tcx: &TypeContext) -> Result<(), Fail> {
     let method = function(tcx)?;
     let this = IdentBuf::new(alloc, "this")?;
     let visitor = method.borrowing_field_visitor(alloc, tcx, &this)?;
-    compare_calls(rt, &visitor);
+    assert!(rt; are_calls(&visitor));
     Ok(())
 }
 

@@ -1,8 +1,7 @@
 //! What the visitors find, compared with tables.
 
-ghost use Rattle.hir_context.specs.Fitness.{MethodFits};
-
 use crate::tests::made::lifetime;
+use crate::tests::signatures::function;
 use bridge_decl::{IdentBuf, NoMemory};
 use hir_borrow::{
     BorrowedLifetimeInfo, BorrowingField, BorrowingFieldVisitor, BorrowingParamVisitor,
@@ -21,7 +20,7 @@ use std::test::Fail;
 pub type Leaf = (&'static str, &'static [usize]);
 
 /// An edge to an input of this name.
-#[derive(Clone, Copy, PartialEq, Debug, Drop)]
+#[derive(Clone, Copy, PartialEq)]
 pub enum Edge<'e> {
     /// To an opaque.
     Opaque(&'e str),
@@ -34,22 +33,44 @@ pub enum Edge<'e> {
 /// The edges under the lifetime of a number.
 pub type Held<'e> = (usize, &'e [Edge<'static>]);
 
-/// Compares a leaf.
-fn compare_leaf(
+/// Compares the path of a leaf.
+pub fn compare_path(
     rt: &impl Abort,
     alloc: Global,
     field: &BorrowingField<'_>,
+    expected: &str,
+) -> Result<(), Fail> {
+    let found = format!(in alloc; "{field}")?;
+    assert!(rt; found.as_str() == expected);
+    Ok(())
+}
+
+/// Whether a leaf carries the lifetimes of these numbers.
+fn carries(field: &BorrowingField<'_>, numbers: &[usize]) -> bool {
+    let carried = field.lifetimes();
+    for (found, number) in carried.as_slice().iter().zip(numbers.iter()) {
+        if *found != lifetime(*number) {
+            return false;
+        }
+    }
+    carried.len() == numbers.len()
+}
+
+/// Compares the leaf of a number, which has to be there.
+fn compare_leaf(
+    rt: &impl Abort,
+    alloc: Global,
+    visitor: &BorrowingFieldVisitor<'_>,
+    number: usize,
     expected: &Leaf,
 ) -> Result<(), Fail> {
-    let (path, numbers) = expected;
-    let found = format!(in alloc; "{field}")?;
-    assert!(rt; found.as_str() == *path);
-    let carried = field.lifetimes();
-    assert!(rt; carried.len() == numbers.len());
-    for (found, number) in carried.as_slice().iter().zip(numbers.iter()) {
-        assert!(rt; *found == lifetime(*number));
+    match visitor.get(number) {
+        Some(field) => {
+            assert!(rt; carries(&field, expected.1));
+            compare_path(rt, alloc, &field, expected.0)
+        }
+        None => Err(Fail::from("there is no leaf")),
     }
-    Ok(())
 }
 
 /// Compares all leaves.
@@ -59,27 +80,21 @@ fn compare_fields(
     visitor: &BorrowingFieldVisitor<'_>,
     expected: &[Leaf],
 ) -> Result<(), Fail> {
+    assert!(rt; visitor.len() == expected.len() && visitor.get(expected.len()).is_none());
     for (number, leaf) in expected.iter().enumerate() {
-        match visitor.get(number) {
-            Some(field) => compare_leaf(rt, alloc, &field, leaf)?,
-            None => return Err(Fail::from("there is no leaf")),
-        }
+        compare_leaf(rt, alloc, visitor, number, leaf)?;
     }
-    assert!(rt; visitor.len() == expected.len());
-    assert!(rt; visitor.get(expected.len()).is_none());
     Ok(())
 }
 
-/// Compares all leaves of a method whose receiver is called `this`.
+/// Compares all leaves of the function of a context; its receiver is called `this`.
 pub fn compare_leaves(
     rt: &impl Abort,
     alloc: Global,
     tcx: &TypeContext,
-    method: &Method,
     expected: &[Leaf],
-) -> Result<(), Fail>
-    requires { MethodFits tcx.now.definitions method.now }
-{
+) -> Result<(), Fail> {
+    let method = function(tcx)?;
     let this = IdentBuf::new(alloc, "this")?;
     let visitor = method.borrowing_field_visitor(alloc, tcx, &this)?;
     compare_fields(rt, alloc, &visitor, expected)
@@ -96,12 +111,14 @@ fn edge_of<'e>(edge: &LifetimeEdge<'e>) -> Edge<'e> {
     }
 }
 
-/// Compares the edges under a lifetime.
-fn compare_edges(rt: &impl Abort, info: &BorrowedLifetimeInfo<'_>, expected: &[Edge<'_>]) {
-    assert!(rt; info.incoming_edges.len() == expected.len());
+/// Whether these edges are under a lifetime.
+fn are_edges(info: &BorrowedLifetimeInfo<'_>, expected: &[Edge<'_>]) -> bool {
     for (edge, expected) in info.incoming_edges.iter().zip(expected.iter()) {
-        assert!(rt; edge_of(edge) == *expected);
+        if edge_of(edge) != *expected {
+            return false;
+        }
     }
+    info.incoming_edges.len() == expected.len()
 }
 
 /// Visits the receiver of a method, where it is a struct.
@@ -146,34 +163,28 @@ fn visit<'tcx>(
     visit_params(visitor, method)
 }
 
-/// Compares what is kept of each lifetime.
-fn compare_map(
-    rt: &impl Abort,
-    map: &BTreeMap<Lifetime, BorrowedLifetimeInfo<'_>>,
-    expected: &[Held<'_>],
-) {
-    assert!(rt; map.len() == expected.len());
+/// Whether this is kept of each lifetime.
+fn is_kept(map: &BTreeMap<Lifetime, BorrowedLifetimeInfo<'_>>, expected: &[Held<'_>]) -> bool {
     for (number, edges) in expected {
         match map.get(&Lifetime::new(*number)) {
-            Some(info) => compare_edges(rt, info, edges),
-            None => assert!(rt; false),
+            Some(info) if are_edges(info, edges) => {}
+            _ => return false,
         }
     }
+    map.len() == expected.len()
 }
 
-/// Compares all that is held for the lifetimes that are kept.
+/// Compares all that the function of a context holds for the lifetimes that are kept.
 pub fn compare_held(
     rt: &impl Abort,
     alloc: Global,
     tcx: &TypeContext,
-    method: &Method,
     with_slices: bool,
     expected: &[Held<'_>],
-) -> Result<(), Fail>
-    requires { MethodFits tcx.now.definitions method.now }
-{
+) -> Result<(), Fail> {
+    let method = function(tcx)?;
     let mut visitor = method.borrowing_param_visitor(alloc, tcx, with_slices)?;
     visit(alloc, &mut visitor, method)?;
-    compare_map(rt, &visitor.borrow_map(), expected);
+    assert!(rt; is_kept(&visitor.borrow_map(), expected));
     Ok(())
 }

@@ -1,6 +1,6 @@
 //! Nests of structs, in which each struct is held twice; and structs that are disabled.
 
-use crate::tests::comparing::{Edge, compare_held, compare_leaves};
+use crate::tests::comparing::{Edge, Held, compare_held, compare_leaves, compare_path};
 use crate::tests::made::{Of, add_struct, common_parts};
 use crate::tests::signatures::{Signature, context_of, function};
 use bridge_decl::IdentBuf;
@@ -19,16 +19,16 @@ const NESTED: Signature = Signature {
     returned: &[0],
 };
 
+/// Adds a struct that holds this twice.
+fn add_twice(alloc: Global, parts: &mut ContextParts, of: Of) -> Result<(), Fail> {
+    add_struct(alloc, parts, 1, &[("a", of), ("b", of)], false)
+}
+
 /// Adds so many structs: the first holds two opaques, and each other the one before it, twice.
 fn add_nest(alloc: Global, parts: &mut ContextParts, count: usize) -> Result<(), Fail> {
-    let first = [("a", Of::Opaque(0, &[])), ("b", Of::Opaque(0, &[]))];
-    add_struct(alloc, parts, 1, &first, false)?;
+    add_twice(alloc, parts, Of::Opaque(0, &[]))?;
     for place in 1..count {
-        let next = [
-            ("a", Of::Struct(place - 1, &[0])),
-            ("b", Of::Struct(place - 1, &[0])),
-        ];
-        add_struct(alloc, parts, 1, &next, false)?;
+        add_twice(alloc, parts, Of::Struct(place - 1, &[0]))?;
     }
     Ok(())
 }
@@ -40,8 +40,15 @@ fn nest(alloc: Global, count: usize) -> Result<TypeContext, Fail> {
     context_of(alloc, parts, &NESTED)
 }
 
+/// Some of the leaves of a nest, the last among them.
+const PATHS: [(usize, &str); 3] = [
+    (0, "p.a.a.a.a.a.a.a.a.a.a"),
+    (1, "p.a.a.a.a.a.a.a.a.a.b"),
+    (1023, "p.b.b.b.b.b.b.b.b.b.b"),
+];
+
 /// Compares the path of the leaf of a number, where there is one.
-fn compare_path(
+fn compare_path_of(
     rt: &impl Abort,
     alloc: Global,
     visitor: &BorrowingFieldVisitor<'_>,
@@ -49,40 +56,39 @@ fn compare_path(
     expected: &str,
 ) -> Result<(), Fail> {
     match visitor.get(number) {
-        Some(field) => {
-            let found = format!(in alloc; "{field}")?;
-            assert!(rt; found.as_str() == expected);
-            Ok(())
-        }
+        Some(field) => compare_path(rt, alloc, &field, expected),
         None => Err(Fail::from("there is no leaf")),
     }
 }
 
-/// Compares the first two leaves of a nest, and the last.
+/// Compares these.
 fn compare_paths(
     rt: &impl Abort,
     alloc: Global,
     visitor: &BorrowingFieldVisitor<'_>,
 ) -> Result<(), Fail> {
     assert!(rt; visitor.len() == 1024);
-    compare_path(rt, alloc, visitor, 0, "p.a.a.a.a.a.a.a.a.a.a")?;
-    compare_path(rt, alloc, visitor, 1, "p.a.a.a.a.a.a.a.a.a.b")?;
-    compare_path(rt, alloc, visitor, 1023, "p.b.b.b.b.b.b.b.b.b.b")
+    for (number, expected) in &PATHS {
+        compare_path_of(rt, alloc, visitor, *number, expected)?;
+    }
+    Ok(())
 }
 
-/// Compares what both visitors find in a nest.
+/// Compares the leaves of a nest.
 fn compare_nest(rt: &impl Abort, alloc: Global, tcx: &TypeContext) -> Result<(), Fail> {
     let method = function(tcx)?;
-    let held = [(0, &[Edge::Struct("p", 0, false)] as &[Edge<'static>])];
-    compare_held(rt, alloc, tcx, method, false, &held)?;
     let this = IdentBuf::new(alloc, "this")?;
     let visitor = method.borrowing_field_visitor(alloc, tcx, &this)?;
     compare_paths(rt, alloc, &visitor)
 }
 
+/// What is held in a nest.
+const HELD_IN_NEST: &[Held<'static>] = &[(0, &[Edge::Struct("p", 0, false)])];
+
 #[test]
 fn a_nest_has_a_leaf_for_each_way(rt: HostRuntime) -> Result<(), Fail> {
     let tcx = nest(rt.alloc(), 10)?;
+    compare_held(&rt, rt.alloc(), &tcx, false, HELD_IN_NEST)?;
     compare_nest(&rt, rt.alloc(), &tcx)
 }
 
@@ -116,13 +122,14 @@ const EDGES: &[Edge<'static>] = &[
     Edge::Struct("q", 0, false),
 ];
 
+/// What is held with slices.
+const WITH_SLICES: &[Held<'static>] = &[(0, EDGES), (1, &[Edge::Struct("p", 1, false)])];
+
 /// Compares what both visitors find.
 fn compare_disabled(rt: &impl Abort, alloc: Global, tcx: &TypeContext) -> Result<(), Fail> {
-    let method = function(tcx)?;
-    compare_leaves(rt, alloc, tcx, method, &[("p.t", &[1])])?;
-    compare_held(rt, alloc, tcx, method, false, &[(0, EDGES)])?;
-    let more = [(0, EDGES), (1, &[Edge::Struct("p", 1, false)])];
-    compare_held(rt, alloc, tcx, method, true, &more)
+    compare_leaves(rt, alloc, tcx, &[("p.t", &[1])])?;
+    compare_held(rt, alloc, tcx, false, &[(0, EDGES)])?;
+    compare_held(rt, alloc, tcx, true, WITH_SLICES)
 }
 
 #[test]

@@ -17,7 +17,7 @@ use std::test::Fail;
 pub const STATIC: usize = usize::MAX;
 
 /// A type. A list of one lifetime at most is that of a reference, and what has none is owned.
-#[derive(Drop)]
+#[derive(Clone, Copy)]
 pub enum Of {
     /// `u8`.
     Number,
@@ -99,18 +99,23 @@ pub fn struct_path(
     })
 }
 
-/// A path to the opaque that has so many lifetimes.
-pub fn opaque_path<Owner: Drop>(
-    alloc: Global,
-    owner: Owner,
-    numbers: &[usize],
-) -> Result<OpaquePath<Optional, Owner>, NoMemory> {
-    Ok(OpaquePath {
-        lifetimes: lifetime_list(alloc, numbers)?,
+/// A path to the opaque that has as many lifetimes.
+pub fn opaque_with<Owner: Drop>(owner: Owner, lifetimes: Lifetimes) -> OpaquePath<Optional, Owner> {
+    OpaquePath {
+        tcx_id: OpaqueId::new(lifetimes.len()),
+        lifetimes,
         optional: Optional::new(false),
         owner,
-        tcx_id: OpaqueId::new(numbers.len()),
-    })
+    }
+}
+
+/// A path to the opaque that has so many lifetimes.
+fn opaque_path(
+    alloc: Global,
+    owner: Borrow,
+    numbers: &[usize],
+) -> Result<OpaquePath<Optional, Borrow>, NoMemory> {
+    Ok(opaque_with(owner, lifetime_list(alloc, numbers)?))
 }
 
 /// A text.

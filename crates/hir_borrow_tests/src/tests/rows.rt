@@ -2,8 +2,7 @@
 
 use crate::tests::comparing::{Edge, Held, Leaf, compare_held, compare_leaves};
 use crate::tests::made::{Made, Of, STATIC};
-use crate::tests::signatures::{Signature, context, function};
-use hir_context::TypeContext;
+use crate::tests::signatures::{Signature, context};
 use std::alloc::Global;
 use std::process::Abort;
 use std::test::Fail;
@@ -133,23 +132,11 @@ const BOUNDED: Row = (
 );
 
 /// Compares what both visitors find.
-fn compare(
-    rt: &impl Abort,
-    alloc: Global,
-    tcx: &TypeContext,
-    leaves: &[Leaf],
-    held: &[Held<'_>],
-) -> Result<(), Fail> {
-    let method = function(tcx)?;
-    compare_leaves(rt, alloc, tcx, method, leaves)?;
-    compare_held(rt, alloc, tcx, method, false, held)
-}
-
-/// Compares a row.
 fn compare_row(rt: &impl Abort, alloc: Global, row: &Row) -> Result<(), Fail> {
     let (structs, signature, leaves, held) = row;
     let tcx = context(alloc, structs, signature)?;
-    compare(rt, alloc, &tcx, leaves, held)
+    compare_leaves(rt, alloc, &tcx, leaves)?;
+    compare_held(rt, alloc, &tcx, false, held)
 }
 
 #[test]

@@ -5,8 +5,8 @@ ghost use Rattle.hir_context.specs.Fitness.{MethodFits};
 ghost use Rattle.hir_life.specs.Environment.{IsSound};
 
 use crate::tests::made::{
-    Made, Named, Of, add_structs, common_parts, in_root, lifetime_list, named, nameless,
-    opaque_path, struct_path, type_of,
+    Head, Made, Named, Of, add_structs, common_parts, in_root, lifetime_list, named, nameless,
+    opaque_with, struct_path, type_of,
 };
 use bridge_decl::{IdentBuf, Items, NoMemory};
 use hir_attrs::Attrs;
@@ -14,13 +14,13 @@ use hir_borrow::methods_of_contexts_fit;
 use hir_context::{ContextParts, TypeContext};
 use hir_definitions::{Method, Param, ParamSelf};
 use hir_ids::MaybeOwn;
-use hir_life::{BoundedLifetime, Lifetime, LifetimeEnv, LifetimeList};
+use hir_life::{BoundedLifetime, Lifetime, LifetimeEnv, LifetimeList, Lifetimes};
 use hir_types::{HirType, InputOnly, OutputOnly, ReturnType, SelfType, SuccessType};
 use std::alloc::Global;
 use std::test::Fail;
 
 /// A method.
-#[derive(Drop)]
+#[derive(Clone, Copy)]
 pub struct Signature {
     /// Whether its first two lifetimes have names, as `'a` and `'b: 'a`.
     pub bounded: bool,
@@ -89,12 +89,13 @@ fn param(alloc: Global, called: &str, of: &Of) -> Result<Param, Fail> {
     Ok(param_of(alloc, ty, name))
 }
 
-/// Adds what a method takes.
-fn add_params(alloc: Global, params: &mut Items<Param>, all: &[(&str, Of)]) -> Result<(), Fail> {
+/// What a method takes.
+fn params(alloc: Global, all: &[(&str, Of)]) -> Result<Items<Param>, Fail> {
+    let mut params = Items::new(alloc);
     for (called, of) in all {
         params.push(param(alloc, called, of)?)?;
     }
-    Ok(())
+    Ok(params)
 }
 
 /// The receiver, where there is one.
@@ -115,40 +116,54 @@ fn receiver(
 }
 
 /// What a method returns: a boxed opaque with these lifetimes.
-fn output(alloc: Global, numbers: &[usize]) -> Result<ReturnType<OutputOnly>, NoMemory> {
-    let path = opaque_path(alloc, MaybeOwn::Own, numbers)?;
-    Ok(ReturnType::Infallible(SuccessType::OutType(HirType::Opaque(path))))
+fn output(lifetimes: Lifetimes) -> ReturnType<OutputOnly> {
+    let path = opaque_with(MaybeOwn::Own, lifetimes);
+    ReturnType::Infallible(SuccessType::OutType(HirType::Opaque(path)))
 }
 
-/// A method that takes and returns nothing.
-fn bare(alloc: Global) -> Result<Method, Fail> {
-    let abi_name = IdentBuf::new(alloc, "symbol")?;
-    let head = named(alloc, "visit")?;
-    Ok(Method {
-        docs: head.docs,
-        name: head.name,
-        abi_name,
-        lifetime_env: nameless(alloc, 0),
-        param_self: None,
-        params: Items::new(alloc),
-        output: ReturnType::Infallible(SuccessType::Unit),
-        attrs: Attrs::empty(alloc),
+/// What a method has but names.
+#[derive(Drop)]
+struct Parts {
+    lifetimes: LifetimeEnv,
+    receiver: Option<ParamSelf>,
+    params: Items<Param>,
+    output: ReturnType<OutputOnly>,
+}
+
+/// That of the signature.
+fn parts_of(alloc: Global, signature: &Signature) -> Result<Parts, Fail> {
+    let lifetimes = environment(alloc, signature)?;
+    let params = params(alloc, signature.params)?;
+    let returned = lifetime_list(alloc, signature.returned)?;
+    let receiver = receiver(alloc, &signature.receiver)?;
+    Ok(Parts {
+        lifetimes,
+        receiver,
+        params,
+        output: output(returned),
     })
 }
 
-/// Gives a method its signature.
-fn sign(alloc: Global, method: &mut Method, signature: &Signature) -> Result<(), Fail> {
-    method.lifetime_env = environment(alloc, signature)?;
-    method.param_self = receiver(alloc, &signature.receiver)?;
-    method.output = output(alloc, signature.returned)?;
-    add_params(alloc, &mut method.params, signature.params)
+/// A method of these parts.
+fn method_of(alloc: Global, head: Head, abi_name: IdentBuf, parts: Parts) -> Method {
+    Method {
+        docs: head.docs,
+        name: head.name,
+        abi_name,
+        lifetime_env: parts.lifetimes,
+        param_self: parts.receiver,
+        params: parts.params,
+        output: parts.output,
+        attrs: Attrs::empty(alloc),
+    }
 }
 
 /// The method.
-pub fn method(alloc: Global, signature: &Signature) -> Result<Method, Fail> {
-    let mut method = bare(alloc)?;
-    sign(alloc, &mut method, signature)?;
-    Ok(method)
+fn method(alloc: Global, signature: &Signature) -> Result<Method, Fail> {
+    let head = named(alloc, "visit")?;
+    let abi_name = IdentBuf::new(alloc, "symbol")?;
+    let parts = parts_of(alloc, signature)?;
+    Ok(method_of(alloc, head, abi_name, parts))
 }
 
 /// Adds the method as a function.

@@ -1,8 +1,8 @@
 //! Slices of each kind of element, with each place of `'static`, where slices are included.
 
 use crate::tests::comparing::{Edge, Held, Leaf, compare_held, compare_leaves};
-use crate::tests::made::{Made, Of, STATIC};
-use crate::tests::signatures::{Signature, context, function};
+use crate::tests::made::{Made, Named, Of, STATIC};
+use crate::tests::signatures::{Signature, context};
 use hir_context::TypeContext;
 use std::alloc::Global;
 use std::process::Abort;
@@ -24,11 +24,7 @@ const STRUCTS: &[Made] = &[
 /// What a method takes that returns nothing of it: its leaves, and the lifetimes that are kept
 /// where slices are included, each with what is held for it. It has the names `'a` and `'b: 'a`
 /// and an anonymous lifetime, the number 2.
-type Row = (
-    &'static [(&'static str, Of)],
-    &'static [Leaf],
-    &'static [Held<'static>],
-);
+type Row = (Named, &'static [Leaf], &'static [Held<'static>]);
 
 /// Texts, numbers and enums.
 const PLAIN: [Row; 7] = [
@@ -131,32 +127,31 @@ const INSIDE: [Row; 5] = [
     (&[("x", Of::Opaque(1, &[0]))], &[("x", &[1, 0])], &[]),
 ];
 
+/// The context of a function that takes these.
+fn taking(alloc: Global, params: Named) -> Result<TypeContext, Fail> {
+    let signature = Signature {
+        bounded: true,
+        count: 3,
+        receiver: None,
+        params,
+        returned: &[],
+    };
+    context(alloc, STRUCTS, &signature)
+}
+
 /// Compares what is found and kept.
-fn compare(
-    rt: &impl Abort,
-    alloc: Global,
-    tcx: &TypeContext,
-    leaves: &[Leaf],
-    held: &[Held<'_>],
-) -> Result<(), Fail> {
-    let method = function(tcx)?;
-    compare_leaves(rt, alloc, tcx, method, leaves)?;
-    compare_held(rt, alloc, tcx, method, false, &[])?;
-    compare_held(rt, alloc, tcx, method, true, held)
+fn compare_row(rt: &impl Abort, alloc: Global, row: &Row) -> Result<(), Fail> {
+    let (params, leaves, held) = row;
+    let tcx = taking(alloc, params)?;
+    compare_leaves(rt, alloc, &tcx, leaves)?;
+    compare_held(rt, alloc, &tcx, false, &[])?;
+    compare_held(rt, alloc, &tcx, true, held)
 }
 
 /// Compares each row.
 fn compare_rows(rt: &impl Abort, alloc: Global, rows: &[Row]) -> Result<(), Fail> {
-    for (params, leaves, held) in rows {
-        let signature = Signature {
-            bounded: true,
-            count: 3,
-            receiver: None,
-            params,
-            returned: &[],
-        };
-        let tcx = context(alloc, STRUCTS, &signature)?;
-        compare(rt, alloc, &tcx, leaves, held)?;
+    for row in rows {
+        compare_row(rt, alloc, row)?;
     }
     Ok(())
 }

@@ -14,7 +14,7 @@ use std::process::Abort;
 use std::test::Fail;
 
 /// What is told of an input.
-#[derive(Clone, Copy, PartialEq, Debug, Drop)]
+#[derive(Clone, Copy, PartialEq)]
 enum Told {
     NotBorrowed,
     TemporarySlice,
@@ -86,12 +86,18 @@ fn told_of<'tcx>(
     }
 }
 
-/// Compares how many lifetimes outlive each that is kept.
-fn compare_longer(rt: &impl Abort, visitor: &BorrowingParamVisitor<'_>) {
-    for (number, expected) in [(0, Some(2)), (1, Some(1)), (2, None)] {
-        let longer = visitor.all_longer_lifetimes(Lifetime::new(number));
-        assert!(rt; longer.map(|set| set.len()) == expected);
+/// Lifetimes, and how many outlive each, if it is kept.
+const LONGER: [(usize, Option<usize>); 3] = [(0, Some(2)), (1, Some(1)), (2, None)];
+
+/// Whether so many lifetimes outlive each.
+fn are_longer(visitor: &BorrowingParamVisitor<'_>) -> bool {
+    for (number, expected) in &LONGER {
+        let longer = visitor.all_longer_lifetimes(Lifetime::new(*number));
+        if longer.map(|set| set.len()) != *expected {
+            return false;
+        }
     }
+    true
 }
 
 /// Compares what is told of each parameter.
@@ -101,8 +107,7 @@ fn compare_params<'tcx>(
     method: &'tcx Method,
 ) -> Result<(), Fail> {
     for (param, expected) in method.params.as_slice().iter().zip(EXPECTED.iter()) {
-        let told = told_of(visitor, param)?;
-        assert!(rt; told == *expected);
+        assert!(rt; told_of(visitor, param)? == *expected);
     }
     Ok(())
 }
@@ -112,7 +117,7 @@ fn compare(rt: &impl Abort, alloc: Global, tcx: &TypeContext, method: &Method) -
     requires { MethodFits tcx.now.definitions method.now }
 {
     let mut visitor = method.borrowing_param_visitor(alloc, tcx, false)?;
-    compare_longer(rt, &visitor);
+    assert!(rt; are_longer(&visitor));
     compare_params(rt, &mut visitor, method)
 }
 

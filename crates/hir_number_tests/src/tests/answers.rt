@@ -4,7 +4,7 @@ use super::declared::{OWN, environment};
 use super::found::{function_in, method_in, struct_in, trait_method_in};
 use super::made::{function, with_fields, with_method, with_trait_method};
 use super::rendered;
-use bridge_ast::{Env, ItemPlace};
+use bridge_ast::{Env, EnvFault, ItemPlace};
 use bridge_decl::{Item, NoMemory};
 use hir_number::{
     field_breaches, function_breaches, method_breaches, number_fields, number_function,
@@ -19,75 +19,75 @@ const OWNER: ItemPlace = ItemPlace {
 };
 
 /// What is said where a row declares nothing that could be asked for.
-fn nothing(alloc: Global) -> Result<String, NoMemory> {
-    String::from_str(alloc, "nothing is declared")
+fn put_nothing(text: &mut String) -> Result<(), NoMemory> {
+    text.push_str("nothing is declared")
 }
 
-fn number_the_method(alloc: Global, env: &Env) -> Result<String, NoMemory> {
+fn number_the_method(alloc: Global, env: &Env, text: &mut String) -> Result<(), NoMemory> {
     match method_in(env) {
-        Some(method) => rendered::method(alloc, number_method(alloc, env, 0, method)),
-        None => nothing(alloc),
+        Some(method) => rendered::put_method(text, &number_method(alloc, env, 0, method)),
+        None => put_nothing(text),
     }
 }
 
-fn number_the_function(alloc: Global, env: &Env) -> Result<String, NoMemory> {
+fn number_the_function(alloc: Global, env: &Env, text: &mut String) -> Result<(), NoMemory> {
     match function_in(env) {
-        Some(function) => rendered::function(alloc, number_function(alloc, env, 0, function)),
-        None => nothing(alloc),
+        Some(function) => rendered::put_function(text, &number_function(alloc, env, 0, function)),
+        None => put_nothing(text),
     }
 }
 
-fn number_the_trait_method(alloc: Global, env: &Env) -> Result<String, NoMemory> {
+fn number_the_trait_method(alloc: Global, env: &Env, text: &mut String) -> Result<(), NoMemory> {
     match trait_method_in(env) {
-        Some(method) => rendered::trait_method(alloc, number_trait_method(alloc, env, 0, method)),
-        None => nothing(alloc),
+        Some(method) => rendered::put_trait_method(
+            text,
+            &number_trait_method(alloc, env, 0, method),
+        ),
+        None => put_nothing(text),
     }
 }
 
-fn number_the_fields(alloc: Global, env: &Env) -> Result<String, NoMemory> {
+fn number_the_fields(alloc: Global, env: &Env, text: &mut String) -> Result<(), NoMemory> {
     match struct_in(env) {
-        Some(item) => rendered::fields(alloc, number_fields(alloc, env, 0, item)),
-        None => nothing(alloc),
+        Some(item) => rendered::put_fields(text, &number_fields(alloc, env, 0, item)),
+        None => put_nothing(text),
     }
 }
 
-fn test_the_method(alloc: Global, env: &Env) -> Result<String, NoMemory> {
+fn test_the_method(alloc: Global, env: &Env, text: &mut String) -> Result<(), NoMemory> {
     match method_in(env) {
-        Some(method) => {
-            let breaches = method_breaches(alloc, env, 0, OWNER, method)?;
-            rendered::breaches(alloc, breaches.as_slice())
-        }
-        None => nothing(alloc),
+        Some(method) => rendered::put_breaches(
+            text,
+            method_breaches(alloc, env, 0, OWNER, method)?.as_slice(),
+        ),
+        None => put_nothing(text),
     }
 }
 
-fn test_the_function(alloc: Global, env: &Env) -> Result<String, NoMemory> {
+fn test_the_function(alloc: Global, env: &Env, text: &mut String) -> Result<(), NoMemory> {
     match function_in(env) {
-        Some(function) => {
-            let breaches = function_breaches(alloc, env, 0, function)?;
-            rendered::breaches(alloc, breaches.as_slice())
-        }
-        None => nothing(alloc),
+        Some(function) => rendered::put_breaches(
+            text,
+            function_breaches(alloc, env, 0, function)?.as_slice(),
+        ),
+        None => put_nothing(text),
     }
 }
 
-fn test_the_trait_method(alloc: Global, env: &Env) -> Result<String, NoMemory> {
+fn test_the_trait_method(alloc: Global, env: &Env, text: &mut String) -> Result<(), NoMemory> {
     match trait_method_in(env) {
-        Some(method) => {
-            let breaches = trait_method_breaches(alloc, env, 0, OWNER, method)?;
-            rendered::breaches(alloc, breaches.as_slice())
-        }
-        None => nothing(alloc),
+        Some(method) => rendered::put_breaches(
+            text,
+            trait_method_breaches(alloc, env, 0, OWNER, method)?.as_slice(),
+        ),
+        None => put_nothing(text),
     }
 }
 
-fn test_the_fields(alloc: Global, env: &Env) -> Result<String, NoMemory> {
+fn test_the_fields(alloc: Global, env: &Env, text: &mut String) -> Result<(), NoMemory> {
     match struct_in(env) {
-        Some(item) => {
-            let breaches = field_breaches(alloc, env, 0, item)?;
-            rendered::breaches(alloc, breaches.as_slice())
-        }
-        None => nothing(alloc),
+        Some(item) => rendered::put_breaches(text, field_breaches(alloc, env, 0, item)?.as_slice()),
+        None => put_nothing(text),
     }
 }
 
@@ -114,25 +114,38 @@ fn declared(alloc: Global, call: Call, row: &str) -> Result<Item, NoMemory> {
     }
 }
 
-fn asked(alloc: Global, call: Call, env: &Env) -> Result<String, NoMemory> {
+fn put_answer(alloc: Global, call: Call, env: &Env, text: &mut String) -> Result<(), NoMemory> {
     match call {
-        Call::NumberMethod => number_the_method(alloc, env),
-        Call::NumberFunction => number_the_function(alloc, env),
-        Call::NumberTraitMethod => number_the_trait_method(alloc, env),
-        Call::NumberFields => number_the_fields(alloc, env),
-        Call::TestMethod => test_the_method(alloc, env),
-        Call::TestFunction => test_the_function(alloc, env),
-        Call::TestTraitMethod => test_the_trait_method(alloc, env),
-        Call::TestFields => test_the_fields(alloc, env),
+        Call::NumberMethod => number_the_method(alloc, env, text),
+        Call::NumberFunction => number_the_function(alloc, env, text),
+        Call::NumberTraitMethod => number_the_trait_method(alloc, env, text),
+        Call::NumberFields => number_the_fields(alloc, env, text),
+        Call::TestMethod => test_the_method(alloc, env, text),
+        Call::TestFunction => test_the_function(alloc, env, text),
+        Call::TestTraitMethod => test_the_trait_method(alloc, env, text),
+        Call::TestFields => test_the_fields(alloc, env, text),
+    }
+}
+
+/// What the call answers in an environment, if there is one.
+fn put_answer_in(
+    alloc: Global,
+    call: Call,
+    env: &Result<Env, EnvFault>,
+    text: &mut String,
+) -> Result<(), NoMemory> {
+    match env {
+        Ok(env) => put_answer(alloc, call, env, text),
+        Err(_) => text.push_str("the declarations don't fit together"),
     }
 }
 
 /// What the call answers in the environment of which the item is the last.
 pub fn asked_of(alloc: Global, call: Call, own: Item) -> Result<String, NoMemory> {
-    match environment(alloc, own) {
-        Ok(env) => asked(alloc, call, &env),
-        Err(_) => String::from_str(alloc, "the declarations don't fit together"),
-    }
+    let env = environment(alloc, own);
+    let mut text = String::new(alloc);
+    put_answer_in(alloc, call, &env, &mut text)?;
+    Ok(text)
 }
 
 /// What the call answers for a row.

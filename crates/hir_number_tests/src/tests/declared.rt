@@ -47,41 +47,41 @@ fn sides(word: &str) -> (&str, &str) {
     )
 }
 
-/// The places of the lifetimes that are declared to outlive that of the name.
-fn longer(alloc: Global, words: &str, name: &str) -> Result<Items<usize>, NoMemory> {
+/// The places of the lifetimes that have the name, or else the bound.
+fn places(
+    alloc: Global,
+    words: &str,
+    wanted: &str,
+    by_bound: bool,
+) -> Result<Items<usize>, NoMemory> {
     let mut places = Items::new(alloc);
     for (place, word) in words.split_whitespace().enumerate() {
-        if sides(word).1 == name {
+        let (name, bound) = sides(word);
+        if wanted == (if by_bound { bound } else { name }) {
             places.push(place)?;
         }
     }
     Ok(places)
 }
 
-/// The place of the lifetime of that name; none where the name is empty.
-fn shorter(alloc: Global, words: &str, name: &str) -> Result<Items<usize>, NoMemory> {
-    let mut places = Items::new(alloc);
-    for (place, word) in words.split_whitespace().enumerate() {
-        if sides(word).0 == name {
-            places.push(place)?;
-        }
-    }
-    Ok(places)
+/// The lifetime that a word declares, among those of the words.
+fn node(alloc: Global, words: &str, word: &str) -> Result<LifetimeNode, NoMemory> {
+    let (name, bound) = sides(word);
+    let longer = places(alloc, words, name, true)?;
+    let shorter = places(alloc, words, bound, false)?;
+    let name = Text::new(alloc, name)?;
+    Ok(LifetimeNode {
+        name,
+        longer,
+        shorter,
+    })
 }
 
 /// The lifetimes that a text declares, as `'a 'b:'a`.
 pub fn lifetimes(alloc: Global, words: &str) -> Result<LifetimeEnv, NoMemory> {
     let mut nodes = Items::new(alloc);
     for word in words.split_whitespace() {
-        let (name, bound) = sides(word);
-        let longer = longer(alloc, words, name)?;
-        let shorter = shorter(alloc, words, bound)?;
-        let name = Text::new(alloc, name)?;
-        nodes.push(LifetimeNode {
-            name,
-            longer,
-            shorter,
-        })?;
+        nodes.push(node(alloc, words, word)?)?;
     }
     Ok(LifetimeEnv { nodes })
 }

@@ -2,10 +2,13 @@
 
 use super::answers::{Call, asked_of};
 use super::declared::structure;
-use super::made::{field, function_of, method, param, struct_with, trait_method, trait_with};
+use super::made::{
+    Signature, field, function_names, function_of, head_of, method_of, param, struct_with,
+    trait_head_of, trait_method_of, trait_with,
+};
 use super::rendered::put_number;
 use bridge_decl::{
-    Boxed, Item, Items, Lifetime, LifetimeEnv, LifetimeNode, Mutability, NoMemory, Param,
+    Boxed, Field, Item, Items, Lifetime, LifetimeEnv, LifetimeNode, Mutability, NoMemory, Param,
     PrimitiveType, Text, TypeName,
 };
 use std::alloc::Global;
@@ -50,11 +53,11 @@ const FIELDS: [Row; 2] = [
     ("l", 4096, 0, "TooManyLifetimes"),
 ];
 
-/// How many names are declared, and what is wrong by itself, whatever it is that declares them.
-const TESTED: [(usize, &str); 3] = [
-    (4095, ""),
-    (4096, "TooManyLifetimes"),
-    (4097, "TooManyLifetimes"),
+/// What is wrong by itself, whatever it is that declares the names.
+const TESTED: [Row; 3] = [
+    ("l", 4095, 0, ""),
+    ("l", 4096, 0, "TooManyLifetimes"),
+    ("l", 4097, 0, "TooManyLifetimes"),
 ];
 
 fn name(alloc: Global, start: &str, number: usize) -> Result<Text, NoMemory> {
@@ -85,8 +88,8 @@ fn reference(alloc: Global, lifetime: Lifetime) -> Result<TypeName, NoMemory> {
 fn params(alloc: Global, count: usize) -> Result<Items<Param>, NoMemory> {
     let mut params = Items::new(alloc);
     for _ in 0..count {
-        let ty = reference(alloc, Lifetime::Anonymous)?;
-        params.push(param(alloc, ty)?)?;
+        let name = Text::new(alloc, "p")?;
+        params.push(param(alloc, name, reference(alloc, Lifetime::Anonymous)?))?;
     }
     Ok(params)
 }
@@ -102,36 +105,49 @@ fn last(alloc: Global, start: &str, count: usize) -> Result<Option<TypeName>, No
     }
 }
 
-fn function(alloc: Global, row: &Row) -> Result<Item, NoMemory> {
+fn signature_of(alloc: Global, row: &Row) -> Result<Signature, NoMemory> {
     let lifetimes = names(alloc, row.0, row.1)?;
     let params = params(alloc, row.2)?;
     let output = last(alloc, row.0, row.1)?;
-    function_of(alloc, lifetimes, params, output)
+    Ok(Signature {
+        lifetimes,
+        params,
+        output,
+    })
+}
+
+fn function(alloc: Global, row: &Row) -> Result<Item, NoMemory> {
+    let names = function_names(alloc)?;
+    let signature = signature_of(alloc, row)?;
+    Ok(function_of(alloc, names, signature))
 }
 
 fn with_method(alloc: Global, row: &Row) -> Result<Item, NoMemory> {
-    let mut method = method(alloc, " | S | & | | ")?;
-    method.lifetime_env = names(alloc, row.0, row.1)?;
-    method.params = params(alloc, row.2)?;
-    method.return_type = last(alloc, row.0, row.1)?;
-    struct_with(alloc, method)
+    let head = head_of(alloc, "S", "&")?;
+    let signature = signature_of(alloc, row)?;
+    struct_with(alloc, method_of(alloc, head, signature))
 }
 
 fn with_trait_method(alloc: Global, row: &Row) -> Result<Item, NoMemory> {
-    let mut method = trait_method(alloc, " | R | & | | ")?;
-    method.lifetimes = names(alloc, row.0, row.1)?;
-    method.params = params(alloc, row.2)?;
-    method.output_type = last(alloc, row.0, row.1)?;
-    trait_with(alloc, method)
+    let head = trait_head_of(alloc, "R", "&")?;
+    let signature = signature_of(alloc, row)?;
+    trait_with(alloc, trait_method_of(alloc, head, signature))
+}
+
+/// The field of a row, if there is a name.
+fn field_list(alloc: Global, row: &Row) -> Result<Items<Field>, NoMemory> {
+    let mut fields = Items::new(alloc);
+    let name = Text::new(alloc, "p")?;
+    match last(alloc, row.0, row.1)? {
+        Some(ty) => fields.push(field(alloc, name, ty))?,
+        None => {}
+    }
+    Ok(fields)
 }
 
 fn with_field(alloc: Global, row: &Row) -> Result<Item, NoMemory> {
     let lifetimes = names(alloc, row.0, row.1)?;
-    let mut fields = Items::new(alloc);
-    match last(alloc, row.0, row.1)? {
-        Some(ty) => fields.push(field(alloc, ty)?)?,
-        None => {}
-    }
+    let fields = field_list(alloc, row)?;
     structure(alloc, "S", lifetimes, fields, Items::new(alloc), false)
 }
 
@@ -145,11 +161,15 @@ fn declared(alloc: Global, call: Call, row: &Row) -> Result<Item, NoMemory> {
     }
 }
 
+/// What the call answers for a row.
+fn answer(alloc: Global, call: Call, row: &Row) -> Result<String, NoMemory> {
+    asked_of(alloc, call, declared(alloc, call, row)?)
+}
+
 fn compare(rt: &impl Abort, alloc: Global, call: Call, rows: &[Row]) -> Result<(), NoMemory> {
     for row in rows {
-        let answer = asked_of(alloc, call, declared(alloc, call, row)?)?;
         assert!(rt;
-            answer.as_str().ends_with(row.3),
+            answer(alloc, call, row)?.as_str().ends_with(row.3),
             "of {} and {}",
             row.1,
             row.2
@@ -179,13 +199,8 @@ fn fields(rt: HostRuntime) -> Result<(), NoMemory> {
 }
 
 fn compare_tested(rt: &impl Abort, alloc: Global, call: Call) -> Result<(), NoMemory> {
-    for (count, expected) in TESTED {
-        let item = declared(alloc, call, &("l", count, 0, expected))?;
-        assert_eq!(rt;
-            asked_of(alloc, call, item)?.as_str(),
-            expected,
-            "of {count}"
-        );
+    for row in &TESTED {
+        assert_eq!(rt; answer(alloc, call, row)?.as_str(), row.3, "of {}", row.1);
     }
     Ok(())
 }

@@ -4,29 +4,27 @@ use super::declared::{attrs, docs, lifetimes, structure, trait_of};
 use super::notation::{borrow, parse, path};
 use bridge_decl::{
     Field, Function, Item, Items, Lifetime, LifetimeEnv, Method, Mutability, NoMemory, Param,
-    SelfParam, Text, TraitMethod, TraitSelfParam, TypeName,
+    PathType, SelfParam, Text, TraitMethod, TraitSelfParam, TypeName,
 };
 use std::alloc::Global;
 
 /// A parameter of a type.
-pub fn param(alloc: Global, ty: TypeName) -> Result<Param, NoMemory> {
-    let name = Text::new(alloc, "p")?;
-    Ok(Param {
+pub fn param(alloc: Global, name: Text, ty: TypeName) -> Param {
+    Param {
         name,
         ty,
         attrs: attrs(alloc),
-    })
+    }
 }
 
 /// A field of a type.
-pub fn field(alloc: Global, ty: TypeName) -> Result<Field, NoMemory> {
-    let name = Text::new(alloc, "p")?;
-    Ok(Field {
+pub fn field(alloc: Global, name: Text, ty: TypeName) -> Field {
+    Field {
         name,
         ty,
         docs: docs(alloc),
         attrs: attrs(alloc),
-    })
+    }
 }
 
 /// Adds a parameter of the type that a text writes, if it writes one.
@@ -36,8 +34,9 @@ fn push_param(
     text: &str,
     params: &mut Items<Param>,
 ) -> Result<(), NoMemory> {
+    let name = Text::new(alloc, "p")?;
     match parse(alloc, own, text)? {
-        Some(ty) => params.push(param(alloc, ty)?),
+        Some(ty) => params.push(param(alloc, name, ty)),
         None => Ok(()),
     }
 }
@@ -117,24 +116,80 @@ fn columns_of(row: &str) -> Columns<'_> {
     }
 }
 
-/// The method of a row.
-pub fn method(alloc: Global, row: &str) -> Result<Method, NoMemory> {
-    let columns = columns_of(row);
-    let lifetime_env = lifetimes(alloc, columns.lifetimes)?;
+/// Those of a function, in which `Self` stands for `S`: lifetimes, the parameters and the return.
+fn function_columns_of(row: &str) -> Columns<'_> {
+    let mut columns = row.split('|');
+    Columns {
+        lifetimes: columns.next().unwrap_or(""),
+        own: "S",
+        receiver: "",
+        params: columns.next().unwrap_or(""),
+        output: columns.next().unwrap_or(""),
+    }
+}
+
+/// What methods and functions have alike.
+#[derive(Drop)]
+pub struct Signature {
+    pub lifetimes: LifetimeEnv,
+    pub params: Items<Param>,
+    pub output: Option<TypeName>,
+}
+
+fn signature_of(alloc: Global, columns: Columns<'_>) -> Result<Signature, NoMemory> {
+    let lifetimes = lifetimes(alloc, columns.lifetimes)?;
     let params = params(alloc, columns.own, columns.params)?;
-    let return_type = parse(alloc, columns.own, columns.output)?;
-    let self_param = receiver(alloc, columns.own, columns.receiver)?;
-    Ok(Method {
-        name: Text::new(alloc, "m")?,
-        abi_name: Text::new(alloc, "m")?,
-        self_type: path(alloc, columns.own)?,
-        self_param,
-        lifetime_env,
+    let output = parse(alloc, columns.own, columns.output)?;
+    Ok(Signature {
+        lifetimes,
         params,
-        return_type,
+        output,
+    })
+}
+
+/// What a method has but its signature.
+#[derive(Drop)]
+pub struct Head {
+    name: Text,
+    abi_name: Text,
+    self_type: PathType,
+    self_param: Option<SelfParam>,
+}
+
+/// That of a method of a path, with a receiver.
+pub fn head_of(alloc: Global, own: &str, text: &str) -> Result<Head, NoMemory> {
+    let name = Text::new(alloc, "m")?;
+    let abi_name = Text::new(alloc, "m")?;
+    let self_type = path(alloc, own)?;
+    let self_param = receiver(alloc, own, text)?;
+    Ok(Head {
+        name,
+        abi_name,
+        self_type,
+        self_param,
+    })
+}
+
+pub fn method_of(alloc: Global, head: Head, signature: Signature) -> Method {
+    Method {
+        name: head.name,
+        abi_name: head.abi_name,
+        self_type: head.self_type,
+        self_param: head.self_param,
+        lifetime_env: signature.lifetimes,
+        params: signature.params,
+        return_type: signature.output,
         docs: docs(alloc),
         attrs: attrs(alloc),
-    })
+    }
+}
+
+/// The method of a row.
+fn method(alloc: Global, row: &str) -> Result<Method, NoMemory> {
+    let columns = columns_of(row);
+    let head = head_of(alloc, columns.own, columns.receiver)?;
+    let signature = signature_of(alloc, columns)?;
+    Ok(method_of(alloc, head, signature))
 }
 
 /// The struct `S<'x>` with a method.
@@ -150,51 +205,64 @@ pub fn with_method(alloc: Global, row: &str) -> Result<Item, NoMemory> {
     struct_with(alloc, method(alloc, row)?)
 }
 
-/// A function `f` of these parts.
-pub fn function_of(
-    alloc: Global,
-    lifetimes: LifetimeEnv,
-    params: Items<Param>,
-    output_type: Option<TypeName>,
-) -> Result<Item, NoMemory> {
+/// The names of a function `f`.
+pub fn function_names(alloc: Global) -> Result<(Text, Text), NoMemory> {
     let name = Text::new(alloc, "f")?;
     let abi_name = Text::new(alloc, "f")?;
-    Ok(Item::Function(Function {
-        name,
-        abi_name,
-        lifetimes,
-        params,
-        output_type,
-        docs: docs(alloc),
-        attrs: attrs(alloc),
-    }))
+    Ok((name, abi_name))
 }
 
-/// The function of a row, in which `Self` stands for `S`.
-pub fn function(alloc: Global, row: &str) -> Result<Item, NoMemory> {
-    let mut columns = row.split('|');
-    let lifetimes = lifetimes(alloc, columns.next().unwrap_or(""))?;
-    let params = params(alloc, "S", columns.next().unwrap_or(""))?;
-    let output = parse(alloc, "S", columns.next().unwrap_or(""))?;
-    function_of(alloc, lifetimes, params, output)
-}
-
-/// The method of a row of a trait.
-pub fn trait_method(alloc: Global, row: &str) -> Result<TraitMethod, NoMemory> {
-    let columns = columns_of(row);
-    let lifetimes = lifetimes(alloc, columns.lifetimes)?;
-    let params = params(alloc, columns.own, columns.params)?;
-    let output_type = parse(alloc, columns.own, columns.output)?;
-    let self_param = trait_receiver(alloc, columns.own, columns.receiver)?;
-    Ok(TraitMethod {
-        name: Text::new(alloc, "m")?,
-        lifetimes,
-        self_param,
-        params,
-        output_type,
+pub fn function_of(alloc: Global, names: (Text, Text), signature: Signature) -> Item {
+    Item::Function(Function {
+        name: names.0,
+        abi_name: names.1,
+        lifetimes: signature.lifetimes,
+        params: signature.params,
+        output_type: signature.output,
         docs: docs(alloc),
         attrs: attrs(alloc),
     })
+}
+
+/// The function of a row.
+pub fn function(alloc: Global, row: &str) -> Result<Item, NoMemory> {
+    let names = function_names(alloc)?;
+    let signature = signature_of(alloc, function_columns_of(row))?;
+    Ok(function_of(alloc, names, signature))
+}
+
+/// What a method of a trait has but its signature.
+#[derive(Drop)]
+pub struct TraitHead {
+    name: Text,
+    self_param: Option<TraitSelfParam>,
+}
+
+/// That of a method with a receiver.
+pub fn trait_head_of(alloc: Global, own: &str, text: &str) -> Result<TraitHead, NoMemory> {
+    let name = Text::new(alloc, "m")?;
+    let self_param = trait_receiver(alloc, own, text)?;
+    Ok(TraitHead { name, self_param })
+}
+
+pub fn trait_method_of(alloc: Global, head: TraitHead, signature: Signature) -> TraitMethod {
+    TraitMethod {
+        name: head.name,
+        lifetimes: signature.lifetimes,
+        self_param: head.self_param,
+        params: signature.params,
+        output_type: signature.output,
+        docs: docs(alloc),
+        attrs: attrs(alloc),
+    }
+}
+
+/// The method of a row of a trait.
+fn trait_method(alloc: Global, row: &str) -> Result<TraitMethod, NoMemory> {
+    let columns = columns_of(row);
+    let head = trait_head_of(alloc, columns.own, columns.receiver)?;
+    let signature = signature_of(alloc, columns)?;
+    Ok(trait_method_of(alloc, head, signature))
 }
 
 /// The trait `R<'x>` with a method.
@@ -217,8 +285,9 @@ fn push_field(
     text: &str,
     fields: &mut Items<Field>,
 ) -> Result<(), NoMemory> {
+    let name = Text::new(alloc, "p")?;
     match parse(alloc, own, text)? {
-        Some(ty) => fields.push(field(alloc, ty)?),
+        Some(ty) => fields.push(field(alloc, name, ty)),
         None => Ok(()),
     }
 }

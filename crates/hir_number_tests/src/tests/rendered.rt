@@ -8,7 +8,6 @@ use hir_number::{
     Breach, Kind, NumberFault, NumberedSignature, NumberedTraitMethod, NumberedType, Target,
     TraitTarget,
 };
-use std::alloc::Global;
 
 fn digit(number: usize) -> &'static str {
     match number % 10 {
@@ -266,7 +265,7 @@ fn put_signature(text: &mut String, signature: &NumberedSignature) -> Result<(),
 }
 
 /// The same of a trait's method.
-fn put_trait_method(text: &mut String, method: &NumberedTraitMethod) -> Result<(), NoMemory> {
+fn put_trait_signature(text: &mut String, method: &NumberedTraitMethod) -> Result<(), NoMemory> {
     put_params(text, &method.params)?;
     put_output(text, &method.output)?;
     put_number(text, method.lifetimes.num_lifetimes())
@@ -293,66 +292,58 @@ fn fault_word(fault: NumberFault) -> &'static str {
     }
 }
 
-fn put_method(text: &mut String, method: &NumberedSignature) -> Result<(), NoMemory> {
-    put_receiver(text, method)?;
-    put_signature(text, method)
+fn put_fault(text: &mut String, fault: NumberFault) -> Result<(), NoMemory> {
+    text.push_str(fault_word(fault))
 }
 
 /// A numbered method, or the fault.
-pub fn method(
-    alloc: Global,
-    answer: Result<NumberedSignature, NumberFault>,
-) -> Result<String, NoMemory> {
-    let mut text = String::new(alloc);
+pub fn put_method(
+    text: &mut String,
+    answer: &Result<NumberedSignature, NumberFault>,
+) -> Result<(), NoMemory> {
     match answer {
-        Ok(method) => put_method(&mut text, &method)?,
-        Err(fault) => text.push_str(fault_word(fault))?,
+        Ok(method) => {
+            put_receiver(text, method)?;
+            put_signature(text, method)
+        }
+        Err(fault) => put_fault(text, *fault),
     }
-    Ok(text)
 }
 
 /// A numbered function, or the fault.
-pub fn function(
-    alloc: Global,
-    answer: Result<NumberedSignature, NumberFault>,
-) -> Result<String, NoMemory> {
-    let mut text = String::new(alloc);
+pub fn put_function(
+    text: &mut String,
+    answer: &Result<NumberedSignature, NumberFault>,
+) -> Result<(), NoMemory> {
     match answer {
-        Ok(function) => put_signature(&mut text, &function)?,
-        Err(fault) => text.push_str(fault_word(fault))?,
+        Ok(function) => put_signature(text, function),
+        Err(fault) => put_fault(text, *fault),
     }
-    Ok(text)
-}
-
-fn put_whole_trait_method(text: &mut String, method: &NumberedTraitMethod) -> Result<(), NoMemory> {
-    put_trait_receiver(text, method)?;
-    put_trait_method(text, method)
 }
 
 /// A numbered method of a trait, or the fault.
-pub fn trait_method(
-    alloc: Global,
-    answer: Result<NumberedTraitMethod, NumberFault>,
-) -> Result<String, NoMemory> {
-    let mut text = String::new(alloc);
+pub fn put_trait_method(
+    text: &mut String,
+    answer: &Result<NumberedTraitMethod, NumberFault>,
+) -> Result<(), NoMemory> {
     match answer {
-        Ok(method) => put_whole_trait_method(&mut text, &method)?,
-        Err(fault) => text.push_str(fault_word(fault))?,
+        Ok(method) => {
+            put_trait_receiver(text, method)?;
+            put_trait_signature(text, method)
+        }
+        Err(fault) => put_fault(text, *fault),
     }
-    Ok(text)
 }
 
 /// Numbered fields, or the fault.
-pub fn fields(
-    alloc: Global,
-    answer: Result<Items<NumberedType>, NumberFault>,
-) -> Result<String, NoMemory> {
-    let mut text = String::new(alloc);
+pub fn put_fields(
+    text: &mut String,
+    answer: &Result<Items<NumberedType>, NumberFault>,
+) -> Result<(), NoMemory> {
     match answer {
-        Ok(types) => put_types(&mut text, &types)?,
-        Err(fault) => text.push_str(fault_word(fault))?,
+        Ok(types) => put_types(text, types),
+        Err(fault) => put_fault(text, *fault),
     }
-    Ok(text)
 }
 
 fn put_segments(text: &mut String, segments: &[Text]) -> Result<(), NoMemory> {
@@ -382,13 +373,12 @@ fn put_breach(text: &mut String, breach: &Breach<'_>) -> Result<(), NoMemory> {
 }
 
 /// All that is wrong, with semicolons between each two.
-pub fn breaches(alloc: Global, breaches: &[Breach<'_>]) -> Result<String, NoMemory> {
-    let mut text = String::new(alloc);
+pub fn put_breaches(text: &mut String, breaches: &[Breach<'_>]) -> Result<(), NoMemory> {
+    let mut before = "";
     for breach in breaches {
-        if !text.is_empty() {
-            text.push_str("; ")?;
-        }
-        put_breach(&mut text, breach)?;
+        text.push_str(before)?;
+        put_breach(text, breach)?;
+        before = "; ";
     }
-    Ok(text)
+    Ok(())
 }
