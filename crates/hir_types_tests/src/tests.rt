@@ -12,8 +12,8 @@ use bridge_decl::{Items, Mutability};
 use hir_ids::{Borrow, EnumId, MaybeOwn, OpaqueId, Optional, OutStructId, StructId, TraitId};
 use hir_life::{Lifetime, Lifetimes, MaybeStatic};
 use hir_types::{
-    Callback, CallbackParam, EnumPath, OpaquePath, OutStructPath, ReturnType, StructPath,
-    SuccessType, TraitPath,
+    Callback, CallbackParam, EnumPath, HirType, OpaquePath, OutStructPath, ReturnType, StructPath,
+    SuccessType, TraitPath, TyPosition,
 };
 use std::alloc::Global;
 use std::test::Fail;
@@ -49,6 +49,39 @@ fn exclusive(number: usize) -> Borrow {
         lifetime: lifetime(Some(number)),
         mutability: Mutability::Mutable,
     }
+}
+
+/// How a thing may be held: owned or for `'0`, and whether that is by `&` and by `&mut`.
+const HELD: [(Option<Mutability>, bool, bool); 3] = [
+    (None, false, false),
+    (Some(Mutability::Immutable), true, false),
+    (Some(Mutability::Mutable), false, true),
+];
+
+/// What holds it so.
+fn owner_of(borrowed: Option<Mutability>) -> MaybeOwn {
+    match borrowed {
+        None => MaybeOwn::Own,
+        Some(mutability) => MaybeOwn::Borrow(Borrow {
+            lifetime: lifetime(Some(0)),
+            mutability,
+        }),
+    }
+}
+
+/// Whether the type has the lifetimes of these numbers, in their order and no others.
+fn has_lifetimes<P: TyPosition>(ty: &HirType<P>, numbers: &[Option<usize>]) -> bool {
+    let mut rest = numbers;
+    for found in ty.lifetimes() {
+        let Some((first, others)) = rest.split_first() else {
+            return false;
+        };
+        if found != lifetime(*first) {
+            return false;
+        }
+        rest = others;
+    }
+    rest.is_empty()
 }
 
 /// A path to the third opaque with these lifetimes.

@@ -24,17 +24,38 @@ fn add_types(alloc: Global, parts: &mut ContextParts) -> Result<(), Fail> {
     add_opaque(alloc, parts, 2, None)
 }
 
-/// The out-struct `Found`, the enum `Color`, and the trait `Sink`.
+/// The out-struct `Found`.
+fn add_out_struct(alloc: Global, parts: &mut ContextParts) -> Result<(), Fail> {
+    let def = out_struct(alloc, "Found", 1)?;
+    parts.out_structs.push(in_root(alloc, def))?;
+    Ok(())
+}
+
+/// The enum `Color`.
+fn add_enum(alloc: Global, parts: &mut ContextParts) -> Result<(), Fail> {
+    let def = enumeration(alloc, "Color")?;
+    parts.enums.push(in_root(alloc, def))?;
+    Ok(())
+}
+
+/// The trait `Sink`.
+fn add_trait(alloc: Global, parts: &mut ContextParts) -> Result<(), Fail> {
+    let def = interface(alloc, "Sink")?;
+    parts.traits.push(in_root(alloc, def))?;
+    Ok(())
+}
+
+/// All three.
 fn add_others(alloc: Global, parts: &mut ContextParts) -> Result<(), Fail> {
-    parts
-        .out_structs
-        .push(in_root(alloc, out_struct(alloc, "Found", 1)?))?;
-    parts
-        .enums
-        .push(in_root(alloc, enumeration(alloc, "Color")?))?;
-    parts
-        .traits
-        .push(in_root(alloc, interface(alloc, "Sink")?))?;
+    add_out_struct(alloc, parts)?;
+    add_enum(alloc, parts)?;
+    add_trait(alloc, parts)
+}
+
+/// Goes one module deeper.
+fn add_module(alloc: Global, path: &mut Items<Text>) -> Result<(), Fail> {
+    let name = Text::new(alloc, "files")?;
+    path.push(name)?;
     Ok(())
 }
 
@@ -42,18 +63,19 @@ fn add_others(alloc: Global, parts: &mut ContextParts) -> Result<(), Fail> {
 fn path_of(alloc: Global, depth: usize) -> Result<Items<Text>, Fail> {
     let mut path = Items::new(alloc);
     for _ in 0..depth {
-        path.push(Text::new(alloc, "files")?)?;
+        add_module(alloc, &mut path)?;
     }
     Ok(path)
 }
 
-/// A function of this name, in a module of this path.
+/// A function of this name, in a module so deep.
 fn add_function(
     alloc: Global,
     parts: &mut ContextParts,
     called: &str,
-    module: Items<Text>,
+    depth: usize,
 ) -> Result<(), Fail> {
+    let module = path_of(alloc, depth)?;
     let def = function(alloc, called)?;
     parts.functions.push(Placed { def, module })?;
     Ok(())
@@ -63,9 +85,8 @@ fn add_function(
 fn add_all(alloc: Global, parts: &mut ContextParts) -> Result<(), Fail> {
     add_types(alloc, parts)?;
     add_others(alloc, parts)?;
-    add_function(alloc, parts, "find", Items::new(alloc))?;
-    let deep = path_of(alloc, 2)?;
-    add_function(alloc, parts, "read", deep)
+    add_function(alloc, parts, "find", 0)?;
+    add_function(alloc, parts, "read", 2)
 }
 
 /// The context of these parts.
@@ -124,8 +145,7 @@ fn is_called(name: &str, expected: &str) -> bool {
 fn compare_types(rt: &impl Abort, tcx: &TypeContext) {
     let mut place: usize = 0;
     for (id, def) in tcx.all_types() {
-        assert!(rt; id == id_at(place));
-        assert!(rt; is_called(def.name().as_str(), name_at(place)));
+        assert!(rt; id == id_at(place) && is_called(def.name().as_str(), name_at(place)));
         place = place.wrapping_add(1);
     }
     assert!(rt; place == 5);
@@ -135,25 +155,22 @@ fn compare_types(rt: &impl Abort, tcx: &TypeContext) {
 fn compare_functions(rt: &impl Abort, tcx: &TypeContext) {
     let mut place: usize = 0;
     for (id, def) in tcx.all_free_functions() {
-        assert!(rt; id == FunctionId::new(place));
-        assert!(rt; is_called(def.name.as_str(), function_at(place)));
+        assert!(rt;
+            id == FunctionId::new(place) && is_called(def.name.as_str(), function_at(place))
+        );
         place = place.wrapping_add(1);
     }
     assert!(rt; place == 2);
 }
 
-/// Compares all traits of the context.
-fn compare_traits(rt: &impl Abort, tcx: &TypeContext) -> Result<(), Fail> {
-    let mut traits = tcx.all_traits();
-    match traits.next() {
-        Some((id, def)) => {
-            assert!(rt; id == TraitId::new(0));
-            assert!(rt; def.name.as_str() == "Sink");
-        }
-        None => return Err(Fail::from("there is a trait")),
+/// Compares all traits of the context: there is one.
+fn compare_traits(rt: &impl Abort, tcx: &TypeContext) {
+    let mut count: usize = 0;
+    for (id, def) in tcx.all_traits() {
+        assert!(rt; id == TraitId::new(0) && def.name.as_str() == "Sink");
+        count = count.wrapping_add(1);
     }
-    assert!(rt; traits.next().is_none());
-    Ok(())
+    assert!(rt; count == 1);
 }
 
 /// The name of the definition of an id, and how deep its module is, where there is one.
@@ -166,38 +183,48 @@ fn found<'a>(tcx: &'a TypeContext, id: &SymbolId) -> Option<(&'a str, usize)> {
     }
 }
 
+/// A kind of definition.
+#[derive(Clone, Copy)]
+enum Kind {
+    Struct,
+    OutStruct,
+    Opaque,
+    Enum,
+    Trait,
+    Function,
+}
+
+/// The definition of this kind with this number.
+fn symbol(kind: Kind, number: usize) -> SymbolId {
+    match kind {
+        Kind::Struct => SymbolId::TypeId(TypeId::Struct(StructId::new(number))),
+        Kind::OutStruct => SymbolId::TypeId(TypeId::OutStruct(OutStructId::new(number))),
+        Kind::Opaque => SymbolId::TypeId(TypeId::Opaque(OpaqueId::new(number))),
+        Kind::Enum => SymbolId::TypeId(TypeId::Enum(EnumId::new(number))),
+        Kind::Trait => SymbolId::TraitId(TraitId::new(number)),
+        Kind::Function => SymbolId::FunctionId(FunctionId::new(number)),
+    }
+}
+
+/// Definitions with their names and how deep their modules are, where they are there.
+const NAMES: [(Kind, usize, Option<(&str, usize)>); 11] = [
+    (Kind::Struct, 1, Some(("Rest", 0))),
+    (Kind::Struct, 2, None),
+    (Kind::OutStruct, 0, Some(("Found", 0))),
+    (Kind::OutStruct, 1, None),
+    (Kind::Opaque, 0, Some(("Page", 0))),
+    (Kind::Enum, 0, Some(("Color", 0))),
+    (Kind::Enum, 1, None),
+    (Kind::Trait, 0, Some(("Sink", 0))),
+    (Kind::Trait, 1, None),
+    (Kind::Function, 1, Some(("read", 2))),
+    (Kind::Function, 2, None),
+];
+
 /// Compares the names and modules of ids with the table.
 fn compare_names(rt: &impl Abort, tcx: &TypeContext) {
-    let rows = [
-        (
-            SymbolId::TypeId(TypeId::Struct(StructId::new(1))),
-            Some(("Rest", 0)),
-        ),
-        (SymbolId::TypeId(TypeId::Struct(StructId::new(2))), None),
-        (
-            SymbolId::TypeId(TypeId::OutStruct(OutStructId::new(0))),
-            Some(("Found", 0)),
-        ),
-        (
-            SymbolId::TypeId(TypeId::OutStruct(OutStructId::new(1))),
-            None,
-        ),
-        (
-            SymbolId::TypeId(TypeId::Opaque(OpaqueId::new(0))),
-            Some(("Page", 0)),
-        ),
-        (
-            SymbolId::TypeId(TypeId::Enum(EnumId::new(0))),
-            Some(("Color", 0)),
-        ),
-        (SymbolId::TypeId(TypeId::Enum(EnumId::new(1))), None),
-        (SymbolId::TraitId(TraitId::new(0)), Some(("Sink", 0))),
-        (SymbolId::TraitId(TraitId::new(1)), None),
-        (SymbolId::FunctionId(FunctionId::new(1)), Some(("read", 2))),
-        (SymbolId::FunctionId(FunctionId::new(2)), None),
-    ];
-    for (id, expected) in &rows {
-        assert!(rt; found(tcx, id) == *expected);
+    for (kind, number, expected) in &NAMES {
+        assert!(rt; found(tcx, &symbol(*kind, *number)) == *expected);
     }
 }
 
@@ -205,7 +232,7 @@ fn compare_names(rt: &impl Abort, tcx: &TypeContext) {
 fn compare_all(rt: &impl Abort, alloc: Global, tcx: &TypeContext) -> Result<(), Fail> {
     compare_types(rt, tcx);
     compare_functions(rt, tcx);
-    compare_traits(rt, tcx)?;
+    compare_traits(rt, tcx);
     compare_names(rt, tcx);
     compare_positions(rt, tcx)?;
     compare_links(rt, alloc, tcx)?;

@@ -42,25 +42,39 @@ fn line(alloc: Global, owner: MaybeOwn) -> Result<SelfType, Fail> {
     Ok(SelfType::Struct(struct_path(alloc, 0, &[], owner)?))
 }
 
+/// Whether a method may write through an opaque so borrowed.
+fn may_write_page(alloc: Global, owner: Borrow) -> bool {
+    may_write(alloc, page(alloc, owner))
+}
+
+/// Whether a method may write through a struct so held.
+fn may_write_line(alloc: Global, owner: MaybeOwn) -> Result<bool, Fail> {
+    let receiver = line(alloc, owner)?;
+    Ok(may_write(alloc, receiver))
+}
+
 #[test]
 fn what_may_be_written_is_held_so(rt: HostRuntime) -> Result<(), Fail> {
     let alloc = rt.alloc();
-    assert!(rt; !may_write(alloc, page(alloc, shared(0))));
-    assert!(rt; may_write(alloc, page(alloc, exclusive())));
-    let rows = [
-        (MaybeOwn::Own, true),
-        (MaybeOwn::Borrow(shared(0)), false),
-        (MaybeOwn::Borrow(exclusive()), true),
-    ];
-    for (owner, expected) in rows {
-        let receiver = line(alloc, owner)?;
-        assert!(rt; may_write(alloc, receiver) == expected);
-    }
+    assert!(rt; may_write_line(alloc, MaybeOwn::Own)?);
+    assert!(rt; !may_write_line(alloc, MaybeOwn::Borrow(shared(0)))?);
+    assert!(rt; may_write_line(alloc, MaybeOwn::Borrow(exclusive()))?);
+    Ok(())
+}
+
+#[test]
+fn opaques_are_written_through_their_borrow(rt: HostRuntime) {
+    let alloc = rt.alloc();
+    assert!(rt; !may_write_page(alloc, shared(0)));
+    assert!(rt; may_write_page(alloc, exclusive()));
+}
+
+#[test]
+fn enums_are_not_written(rt: HostRuntime) {
     let color = SelfType::Enum(EnumPath {
         tcx_id: EnumId::new(0),
     });
-    assert!(rt; !may_write(alloc, color));
-    Ok(())
+    assert!(rt; !may_write(rt.alloc(), color));
 }
 
 /// A parameter whose mark gives it this value.
@@ -81,22 +95,33 @@ fn number_of(param: &Param) -> Option<i128> {
     }
 }
 
+/// The number that stands for a parameter whose mark gives it this value.
+fn number_given(alloc: Global, value: Option<i128>) -> Result<Option<i128>, Fail> {
+    let name = IdentBuf::new(alloc, "depth")?;
+    Ok(number_of(&param(alloc, name, value)))
+}
+
 #[test]
 fn a_parameter_may_have_a_value(rt: HostRuntime) -> Result<(), Fail> {
-    for value in [None, Some(7)] {
-        let name = IdentBuf::new(rt.alloc(), "depth")?;
-        assert!(rt; number_of(&param(rt.alloc(), name, value)) == value);
-    }
+    assert!(rt; number_given(rt.alloc(), None)? == None);
+    assert!(rt; number_given(rt.alloc(), Some(7))? == Some(7));
     Ok(())
+}
+
+/// Whether these are three lifetimes, each with the number of its place.
+fn are_three(all: &Lifetimes) -> bool {
+    for (number, found) in all.as_slice().iter().enumerate() {
+        if *found != lifetime(number) {
+            return false;
+        }
+    }
+    all.len() == 3
 }
 
 /// Compares all lifetimes of a method that has three.
 fn compare_lifetimes(rt: &impl Abort, alloc: Global, method: &Method) -> Result<(), Fail> {
     let all = method.method_lifetimes(alloc)?;
-    assert!(rt; all.len() == 3);
-    for (number, found) in all.as_slice().iter().enumerate() {
-        assert!(rt; *found == lifetime(number));
-    }
+    assert!(rt; are_three(&all));
     Ok(())
 }
 
@@ -108,13 +133,18 @@ fn a_method_has_all_its_lifetimes(rt: HostRuntime) -> Result<(), Fail> {
     compare_lifetimes(&rt, alloc, &method)
 }
 
+/// Whether what is asked of a type is as its name says, and as something iterates over it or not.
+fn is_so(def: TypeDef<'_>, name: &str, iterable: bool) -> bool {
+    def.name().as_str() == name
+        && def.docs().is_empty()
+        && def.methods().len() == 0
+        && !def.attrs().disable
+        && def.special_method_presence().iterable.is_some() == iterable
+}
+
 /// Compares what is asked of a type with its name, and with whether something iterates over it.
 fn compare(rt: &impl Abort, def: TypeDef<'_>, name: &str, iterable: bool) {
-    assert!(rt; def.name().as_str() == name);
-    assert!(rt; def.docs().is_empty());
-    assert!(rt; def.methods().len() == 0);
-    assert!(rt; !def.attrs().disable);
-    assert!(rt; def.special_method_presence().iterable.is_some() == iterable);
+    assert!(rt; is_so(def, name, iterable));
 }
 
 #[test]

@@ -155,15 +155,18 @@ fn all_that_is_named_is_there(rt: HostRuntime) -> Result<(), Fail> {
     Ok(())
 }
 
+/// What iterates over the one opaque, and what is told of it.
+const ITERATORS: [(Option<usize>, Told); 3] = [
+    (None, None),
+    (Some(0), None),
+    (Some(1), Some((OPAQUE, 0, OPAQUE, 1))),
+];
+
 #[test]
 fn what_iterates_is_there(rt: HostRuntime) -> Result<(), Fail> {
-    let rows = [
-        (None, None),
-        (Some(0), None),
-        (Some(1), Some((OPAQUE, 0, OPAQUE, 1))),
-    ];
-    for (iterable, expected) in rows {
-        assert!(rt; told_of(rt.alloc(), &Case::Iterable(iterable))? == expected);
+    for (iterable, expected) in &ITERATORS {
+        let found = told_of(rt.alloc(), &Case::Iterable(*iterable))?;
+        assert!(rt; found == *expected);
     }
     Ok(())
 }

@@ -86,28 +86,45 @@ pub fn opaque_path(
     })
 }
 
-/// An option of this.
-fn optional(alloc: Global, path: StructPath) -> Result<HirType<Everywhere>, Fail> {
-    Ok(HirType::DiplomatOption(Boxed::new(alloc, HirType::Struct(path))?))
+/// The type of a field.
+type FieldType = HirType<Everywhere>;
+
+/// `&'0 Opaque<..>`.
+fn to_opaque(alloc: Global, id: usize, numbers: &[usize]) -> Result<FieldType, Fail> {
+    Ok(HirType::Opaque(opaque_path(alloc, id, numbers)?))
+}
+
+/// The struct itself.
+fn by_value(alloc: Global, id: usize, numbers: &[usize]) -> Result<FieldType, Fail> {
+    Ok(HirType::Struct(struct_path(alloc, id, numbers, MaybeOwn::Own)?))
+}
+
+/// `&'0 Struct`.
+fn lent(alloc: Global, id: usize, numbers: &[usize]) -> Result<FieldType, Fail> {
+    let owner = MaybeOwn::Borrow(shared(0));
+    Ok(HirType::Struct(struct_path(alloc, id, numbers, owner)?))
+}
+
+/// `DiplomatOption<Struct>`.
+fn optional(alloc: Global, id: usize, numbers: &[usize]) -> Result<FieldType, Fail> {
+    let inner = by_value(alloc, id, numbers)?;
+    Ok(HirType::DiplomatOption(Boxed::new(alloc, inner)?))
+}
+
+/// `&'0 [Struct]`.
+fn listed(alloc: Global, id: usize, numbers: &[usize]) -> Result<FieldType, Fail> {
+    let path = struct_path(alloc, id, numbers, MaybeOwn::Own)?;
+    Ok(HirType::Slice(Slice::Struct(MaybeOwn::Borrow(shared(0)), path)))
 }
 
 /// The type of a field.
-fn field_type(alloc: Global, of: &Of) -> Result<HirType<Everywhere>, Fail> {
-    let lent = MaybeOwn::Borrow(shared(0));
+fn field_type(alloc: Global, of: &Of) -> Result<FieldType, Fail> {
     match of {
-        Of::Opaque(id, numbers) => Ok(HirType::Opaque(opaque_path(alloc, *id, numbers)?)),
-        Of::Struct(id, numbers) => {
-            let path = struct_path(alloc, *id, numbers, MaybeOwn::Own)?;
-            Ok(HirType::Struct(path))
-        }
-        Of::Lent(id, numbers) => Ok(HirType::Struct(struct_path(alloc, *id, numbers, lent)?)),
-        Of::Optional(id, numbers) => {
-            optional(alloc, struct_path(alloc, *id, numbers, MaybeOwn::Own)?)
-        }
-        Of::Listed(id, numbers) => {
-            let path = struct_path(alloc, *id, numbers, MaybeOwn::Own)?;
-            Ok(HirType::Slice(Slice::Struct(lent, path)))
-        }
+        Of::Opaque(id, numbers) => to_opaque(alloc, *id, *numbers),
+        Of::Struct(id, numbers) => by_value(alloc, *id, *numbers),
+        Of::Lent(id, numbers) => lent(alloc, *id, *numbers),
+        Of::Optional(id, numbers) => optional(alloc, *id, *numbers),
+        Of::Listed(id, numbers) => listed(alloc, *id, *numbers),
     }
 }
 
@@ -118,11 +135,20 @@ struct Head {
     name: Ident,
 }
 
+/// No documents.
+fn no_docs(alloc: Global) -> Result<Docs, Fail> {
+    let text = Text::new(alloc, "")?;
+    Ok(Docs::new(text, Items::new(alloc)))
+}
+
 /// Without documents, and with this name.
 fn named(alloc: Global, called: &str) -> Result<Head, Fail> {
-    let docs = Docs::new(Text::new(alloc, "")?, Items::new(alloc));
-    let name = Ident::new(IdentBuf::new(alloc, called)?);
-    Ok(Head { docs, name })
+    let docs = no_docs(alloc)?;
+    let name = IdentBuf::new(alloc, called)?;
+    Ok(Head {
+        docs,
+        name: Ident::new(name),
+    })
 }
 
 /// So many lifetimes, of which none has a name.
@@ -131,12 +157,7 @@ fn environment(alloc: Global, count: usize) -> LifetimeEnv {
 }
 
 /// A field of this type.
-fn field_of(
-    alloc: Global,
-    ty: HirType<Everywhere>,
-    docs: Docs,
-    name: IdentBuf,
-) -> StructField<Everywhere> {
+fn field_of(alloc: Global, ty: FieldType, docs: Docs, name: IdentBuf) -> StructField<Everywhere> {
     StructField {
         docs,
         name,
@@ -145,12 +166,17 @@ fn field_of(
     }
 }
 
+/// A field of this type, without documents.
+fn named_field(alloc: Global, ty: FieldType) -> Result<StructField<Everywhere>, Fail> {
+    let docs = no_docs(alloc)?;
+    let name = IdentBuf::new(alloc, "field")?;
+    Ok(field_of(alloc, ty, docs, name))
+}
+
 /// A field that holds this.
 fn field(alloc: Global, of: &Of) -> Result<StructField<Everywhere>, Fail> {
-    let docs = Docs::new(Text::new(alloc, "")?, Items::new(alloc));
-    let name = IdentBuf::new(alloc, "field")?;
     let ty = field_type(alloc, of)?;
-    Ok(field_of(alloc, ty, docs, name))
+    named_field(alloc, ty)
 }
 
 /// A struct of these fields.

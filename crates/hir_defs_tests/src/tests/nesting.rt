@@ -72,11 +72,20 @@ fn no_struct_contains_itself(rt: HostRuntime) -> Result<(), Fail> {
     Ok(())
 }
 
+/// How long chains are, and what is told of them: the struct 256 is the first that has so many
+/// below it; where there is one more, it still is.
+const CHAINS: [(usize, Option<usize>); 4] = [
+    (255, None),
+    (256, None),
+    (257, Some(256)),
+    (258, Some(256)),
+];
+
 #[test]
 fn chains_have_256_structs_at_most(rt: HostRuntime) -> Result<(), Fail> {
-    // The struct 256 is the first that has so many below it; where there is one more, it still is.
-    for (len, expected) in [(255, None), (256, None), (257, Some(256)), (258, Some(256))] {
-        assert!(rt; told_of(rt.alloc(), &Case::Chain(len))? == told(expected));
+    for (len, expected) in &CHAINS {
+        let found = told_of(rt.alloc(), &Case::Chain(*len))?;
+        assert!(rt; found == told(*expected));
     }
     Ok(())
 }

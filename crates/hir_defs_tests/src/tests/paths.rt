@@ -34,6 +34,14 @@ fn links_struct(tcx: &TypeContext, id: StructId, given: &Lifetimes) -> bool
     tcx.resolve_struct(id).lifetimes.num_lifetimes() == given.len()
 }
 
+/// Whether a link gives the definition's lifetimes these two numbers.
+fn gives(link: &LinkedLifetimes<'_, '_>, given: (usize, usize)) -> bool {
+    let mut pairs = link.lifetimes_def_only();
+    pairs.next().map(|pair| pair.0) == Some(lifetime(given.0))
+        && pairs.next().map(|pair| pair.0) == Some(lifetime(given.1))
+        && pairs.next().is_none()
+}
+
 /// Compares a link with these numbers, of which the first is that of the pointer.
 fn compare_link(
     rt: &impl Abort,
@@ -42,10 +50,7 @@ fn compare_link(
     given: (usize, usize),
 ) {
     assert!(rt; link.self_lifetime() == pointer.map(lifetime));
-    let mut pairs = link.lifetimes_def_only();
-    assert!(rt; pairs.next().map(|pair| pair.0) == Some(lifetime(given.0)));
-    assert!(rt; pairs.next().map(|pair| pair.0) == Some(lifetime(given.1)));
-    assert!(rt; pairs.next().is_none());
+    assert!(rt; gives(link, given));
 }
 
 /// Compares the link of a path to `Page`.
@@ -70,12 +75,22 @@ fn compare_struct(rt: &impl Abort, tcx: &TypeContext, path: &StructPath) -> Resu
     Ok(())
 }
 
-/// Compares both.
-pub fn compare_links(rt: &impl Abort, alloc: Global, tcx: &TypeContext) -> Result<(), Fail> {
+/// Makes the path to `Page`.
+fn compare_page(rt: &impl Abort, alloc: Global, tcx: &TypeContext) -> Result<(), Fail> {
     let path = opaque_path(alloc, 0, &[2, 1])?;
-    compare_opaque(rt, tcx, &path)?;
+    compare_opaque(rt, tcx, &path)
+}
+
+/// Makes the path to `Line`.
+fn compare_line(rt: &impl Abort, alloc: Global, tcx: &TypeContext) -> Result<(), Fail> {
     let path = struct_path(alloc, 0, &[4, 3], MaybeOwn::Own)?;
     compare_struct(rt, tcx, &path)
+}
+
+/// Compares both.
+pub fn compare_links(rt: &impl Abort, alloc: Global, tcx: &TypeContext) -> Result<(), Fail> {
+    compare_page(rt, alloc, tcx)?;
+    compare_line(rt, alloc, tcx)
 }
 
 /// Compares which positions have structs of their own.
@@ -96,24 +111,38 @@ pub fn compare_positions(rt: &impl Abort, tcx: &TypeContext) -> Result<(), Fail>
     }
 }
 
-/// Compares the names of what a path to an opaque and one to a struct name.
-fn compare_resolved(
-    rt: &impl Abort,
-    tcx: &TypeContext,
-    page: &OpaquePath<Optional, Borrow>,
-    rest: &StructPath,
-) -> Result<(), Fail> {
-    if tcx.opaques().len() <= page.tcx_id.index() || tcx.structs().len() <= rest.tcx_id.index() {
-        return Err(Fail::from("Page and Rest are there"));
+/// Whether the path names `Page`.
+fn names_page(tcx: &TypeContext, path: &OpaquePath<Optional, Borrow>) -> bool {
+    if tcx.opaques().len() <= path.tcx_id.index() {
+        return false;
     }
-    assert!(rt; page.resolve(tcx).name.as_str() == "Page");
-    assert!(rt; rest.resolve(tcx).name.as_str() == "Rest");
+    path.resolve(tcx).name.as_str() == "Page"
+}
+
+/// Whether the path names `Rest`.
+fn names_rest(tcx: &TypeContext, path: &StructPath) -> bool {
+    if tcx.structs().len() <= path.tcx_id.index() {
+        return false;
+    }
+    path.resolve(tcx).name.as_str() == "Rest"
+}
+
+/// Compares the name of what a path to an opaque names.
+fn compare_opaque_name(rt: &impl Abort, alloc: Global, tcx: &TypeContext) -> Result<(), Fail> {
+    let page = opaque_path(alloc, 0, &[])?;
+    assert!(rt; names_page(tcx, &page));
     Ok(())
 }
 
-/// Makes both paths.
-pub fn compare_paths(rt: &impl Abort, alloc: Global, tcx: &TypeContext) -> Result<(), Fail> {
-    let page = opaque_path(alloc, 0, &[])?;
+/// Compares the name of what a path to a struct names.
+fn compare_struct_name(rt: &impl Abort, alloc: Global, tcx: &TypeContext) -> Result<(), Fail> {
     let rest = struct_path(alloc, 1, &[], MaybeOwn::Own)?;
-    compare_resolved(rt, tcx, &page, &rest)
+    assert!(rt; names_rest(tcx, &rest));
+    Ok(())
+}
+
+/// Compares both.
+pub fn compare_paths(rt: &impl Abort, alloc: Global, tcx: &TypeContext) -> Result<(), Fail> {
+    compare_opaque_name(rt, alloc, tcx)?;
+    compare_struct_name(rt, alloc, tcx)
 }

@@ -8,11 +8,23 @@ use hir_types::{
 };
 use std::alloc::Global;
 
-/// Whether the position takes a callback, whether it takes a path to a trait, and its status.
+/// Whether the position takes a callback.
+fn takes_callbacks<P: PositionTypes>(alloc: Global) -> bool {
+    P::build_callback(callback(alloc)).is_some()
+}
+
+/// Whether it takes a path to a trait.
+fn takes_traits<P: PositionTypes>(alloc: Global) -> bool {
+    P::build_trait_path(trait_path(alloc)).is_some()
+}
+
+/// Both, and the status of the position.
 fn takes<P: PositionTypes>(alloc: Global) -> (bool, bool, InputOrOutput) {
-    let takes_callbacks = P::build_callback(callback(alloc)).is_some();
-    let takes_traits = P::build_trait_path(trait_path(alloc)).is_some();
-    (takes_callbacks, takes_traits, P::IN_OUT_STATUS)
+    (
+        takes_callbacks::<P>(alloc),
+        takes_traits::<P>(alloc),
+        P::IN_OUT_STATUS,
+    )
 }
 
 #[test]
@@ -46,13 +58,17 @@ fn lends<P: PositionTypes>(callback: Option<&P::CallbackInstantiation>) -> bool 
     P::callback(callback).is_some()
 }
 
+/// Whether the callback takes nothing, says what it returns, and is lent where it stands.
+fn says_all(callback: &Callback) -> bool {
+    asked(Some(callback)) == (Some(0), true) && lends::<InputOnly>(Some(callback))
+}
+
 #[test]
 fn callbacks_say_what_they_take_and_return(rt: HostRuntime) {
-    let callback = callback(rt.alloc());
-    assert!(rt; asked(Some(&callback)) == (Some(0), true));
-    assert!(rt; lends::<InputOnly>(Some(&callback)));
     assert!(rt; asked::<Callback>(None) == (None, false));
     assert!(rt; asked::<NoCallback>(None) == (None, false));
+    let callback = callback(rt.alloc());
+    assert!(rt; says_all(&callback));
 }
 
 #[test]
