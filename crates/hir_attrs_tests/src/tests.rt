@@ -16,20 +16,29 @@ mod support;
 mod values;
 
 use bridge_decl::NoMemory;
-use hir_attrs::{Attrs, BasicAttributeValidator, ErrorStore, Names, SupportFlag};
+use hir_attrs::{
+    Attrs, BackendAttrSupport, BasicAttributeValidator, ErrorStore, Names, SupportFlag,
+};
 use notation::{marked, texts};
 use rendering::render;
 use std::alloc::Global;
 use std::process::Abort;
 
+/// What a backend supports: nothing, or everything.
+fn supported(is_able: bool) -> BackendAttrSupport {
+    let mut support = BackendAttrSupport::none();
+    if is_able {
+        for flag in SupportFlag::all() {
+            support = support.with(*flag);
+        }
+    }
+    support
+}
+
 /// The backend `cpp`, which supports nothing, or everything.
 fn backend(alloc: Global, is_able: bool) -> Result<BasicAttributeValidator, NoMemory> {
     let mut backend = BasicAttributeValidator::new(alloc, "cpp")?;
-    if is_able {
-        for flag in SupportFlag::all() {
-            backend.support = backend.support.with(*flag);
-        }
-    }
+    backend.support = supported(is_able);
     Ok(backend)
 }
 

@@ -87,12 +87,19 @@ fn pairs(alloc: Global, name: &str, value: &str) -> Result<Pairs, NoMemory> {
 
 /// The backend `cpp`, also called `c++`, with traits, the feature `data` and one pair.
 fn knowing(alloc: Global) -> Result<BasicAttributeValidator, NoMemory> {
-    let mut backend = backend(alloc, false)?;
-    backend.support = BackendAttrSupport::none().with(SupportFlag::Traits);
-    backend.other_backend_names = names(alloc, "c++")?;
-    backend.features_enabled = names(alloc, "data")?;
-    backend.name_values = pairs(alloc, "abi", "itanium")?;
-    Ok(backend)
+    let backend_name = Text::new(alloc, "cpp")?;
+    let other_backend_names = names(alloc, "c++")?;
+    let name_values = pairs(alloc, "abi", "itanium")?;
+    let features_enabled = names(alloc, "data")?;
+    let semver_unstable_features = names(alloc, "")?;
+    Ok(BasicAttributeValidator {
+        backend_name,
+        support: BackendAttrSupport::none().with(SupportFlag::Traits),
+        other_backend_names,
+        name_values,
+        features_enabled,
+        semver_unstable_features,
+    })
 }
 
 /// What the rename comes to under a condition.

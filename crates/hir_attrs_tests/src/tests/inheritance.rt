@@ -2,9 +2,9 @@
 
 use super::notation::{declared, marked};
 use super::rendering::render;
-use super::{backend, names};
-use bridge_decl::{AttrInheritContext, NoMemory};
-use hir_attrs::{Attrs, BasicAttributeValidator, ErrorStore};
+use super::{backend, names, supported};
+use bridge_decl::{AttrInheritContext, Items, NoMemory, Text};
+use hir_attrs::{Attrs, BasicAttributeValidator, ErrorStore, Pairs};
 use std::alloc::Global;
 
 /// How a set is taken over: as a whole, by a copy, or by what stands in the declaration.
@@ -232,10 +232,26 @@ fn beside(
     inner(alloc, backend, &outer, way, &own)
 }
 
+/// The backend `cpp`, in which the features `v` and `u` are unstable.
+fn unstable(alloc: Global) -> Result<BasicAttributeValidator, NoMemory> {
+    let backend_name = Text::new(alloc, "cpp")?;
+    let other_backend_names = names(alloc, "")?;
+    let name_values = Pairs::new(alloc, Items::new(alloc))?;
+    let features_enabled = names(alloc, "")?;
+    let semver_unstable_features = names(alloc, "v u")?;
+    Ok(BasicAttributeValidator {
+        backend_name,
+        support: supported(true),
+        other_backend_names,
+        name_values,
+        features_enabled,
+        semver_unstable_features,
+    })
+}
+
 #[test]
 fn what_stands_beside_marks_is_kept(rt: HostRuntime) -> Result<(), NoMemory> {
-    let mut backend = backend(rt.alloc(), true)?;
-    backend.semver_unstable_features = names(rt.alloc(), "v u")?;
+    let backend = unstable(rt.alloc())?;
     for (outer, way, own, text) in &BESIDE {
         let found = beside(rt.alloc(), &backend, outer, *way, own)?;
         assert!(rt; found.as_str() == *text);

@@ -69,20 +69,27 @@ fn a_new_backend_supports_nothing(rt: HostRuntime) -> Result<(), NoMemory> {
     Ok(())
 }
 
-fn add_features(alloc: Global, backend: &mut BasicAttributeValidator) -> Result<(), NoMemory> {
-    backend.features_enabled = one(alloc, "compiled_data")?;
-    backend.semver_unstable_features = one(alloc, "unstable")?;
-    Ok(())
-}
-
 // A backend with something in each field.
 fn full(alloc: Global) -> Result<BasicAttributeValidator, NoMemory> {
-    let mut backend = BasicAttributeValidator::new(alloc, "cpp")?;
-    backend.support = BackendAttrSupport::none().with(SupportFlag::Traits);
-    backend.other_backend_names = one(alloc, "c++")?;
-    backend.name_values = one_pair(alloc, "abi", "itanium")?;
-    add_features(alloc, &mut backend)?;
-    Ok(backend)
+    let backend_name = Text::new(alloc, "cpp")?;
+    let other_backend_names = one(alloc, "c++")?;
+    let name_values = one_pair(alloc, "abi", "itanium")?;
+    let features_enabled = one(alloc, "compiled_data")?;
+    let semver_unstable_features = one(alloc, "unstable")?;
+    Ok(BasicAttributeValidator {
+        backend_name,
+        support: BackendAttrSupport::none().with(SupportFlag::Traits),
+        other_backend_names,
+        name_values,
+        features_enabled,
+        semver_unstable_features,
+    })
+}
+
+// A copy, of which the original is gone.
+fn copied(alloc: Global) -> Result<BasicAttributeValidator, NoMemory> {
+    let backend = full(alloc)?;
+    backend.try_clone(alloc)
 }
 
 // Whether the backend is named so and supports traits, but not callbacks.
@@ -102,9 +109,7 @@ fn knows_all(backend: &BasicAttributeValidator) -> bool {
 
 #[test]
 fn a_backend_is_copied(rt: HostRuntime) -> Result<(), NoMemory> {
-    let backend = full(rt.alloc())?;
-    let copy = backend.try_clone(rt.alloc())?;
-    drop(backend);
+    let copy = copied(rt.alloc())?;
     assert!(rt; is_named(&copy));
     assert!(rt; knows_all(&copy));
     Ok(())
