@@ -1,12 +1,12 @@
 -- The laws of alternatives.
-use Rattle.std.proofs.Common.{◌≡◌, ℕ, List, [], ◌∷◌, ◌++◌, Option, Some, None, Result, Ok, Err, refl, sym, ap, inl, inr}
+use Rattle.std.proofs.Common.{◌≡◌, ◌∙◌, ℕ, List, [], ◌∷◌, ◌++◌, Option, Some, None, Result, Ok, Err, refl, sym, ap, inl, inr}
 use Rattle.serde_json.specs.Data.{Data, null, boolean, number, string, array, object}
 use Rattle.serde_json.specs.Find.{as_str}
 use Rattle.bridge_form.specs.declared.keys.Key.{Key}
 use Rattle.bridge_form.specs.declared.fault.InputKind.TheVariants as kind
 use Rattle.bridge_form.specs.declared.fault.Fault.{Fault}
 use Rattle.bridge_form.specs.Reading.{◌>>=◌, here, inside, at_key, under, known, only, needed_of}
-use Rattle.bridge_form.specs.Form.{Form, unknown_keys, needed_faults, TextOr, text_or, word_or, live, IsSole, sole_faults, sole, one_of_faults, one_of, never, ChosenAt, arm_faults, chosen_faults, object_of, chosen_by}
+use Rattle.bridge_form.specs.Form.{Form, unknown_keys, needed_faults, TextOr, text_or, word_or, live, IsSole, sole_faults, sole, sole_under, one_of_faults, one_of, never, ChosenAt, arm_faults, chosen_faults, object_of, chosen_by}
 use Rattle.bridge_form.proofs.FormLaws.{Begins, Lawful, refuse, bind_ok, bind_err, inside_ok, no_error, err_is, begins_before, begins_after, none_within, none_both}
 use Rattle.bridge_form.proofs.PartLaws.{need_sound, need_now}
 use Rattle.bridge_form.proofs.ObjectLaws.{known_none, unknown_first, only_has, has_only_ok}
@@ -36,10 +36,19 @@ module _ {A : Type 0} (words other : Form A) (lawful : Lawful words) (rest : Law
 pub never_lawful : {A : Type 0} → Lawful (never {A = A})
 never_lawful = record { found = λ d x e. absurd (no_error x (here kind.WrongForm) (sym e)); only = λ d x h. absurd h; sound = λ d x e. absurd (no_error x (here kind.WrongForm) (sym e)); first = λ d fault e. record { rest = []; is = ap (λ f. f ∷ []) (err_is _ _ (ap refuse e)) } }
 
-module _ {A : Type 0} (keys : List Key) (arm : Key → Form A) (lawful : (key : Key) → Lawful (arm key)) where
-  pub sole_read : List (Key × Data) → Result A Fault
+module _ {A : Type 0} (keys : List Key) (arm : Key → Form A) where
+  abbrev pub sole_read : List (Key × Data) → Result A Fault
   sole_read ones = sole ones >>= (λ one. inside (at_key one.0) ((arm one.0).read one.1))
 
+  pub all_before : (r : Result (Unit {0}) Fault) (one : Result (Key × Data) Fault) (next : Key × Data → Result A Fault) → ((r >>= (λ known. one)) >>= next) ≡ (r >>= (λ known. one >>= next))
+  all_before (Ok u) one next = refl
+  all_before (Err fault) one next = refl
+
+  pub one_of_is : (d : Data) → (one_of keys arm).read d ≡ (only keys d >>= (λ known. sole_read (live keys d)))
+  unfolding sole_under
+  one_of_is d = all_before (only keys d) (sole (live keys d)) (λ one. inside (at_key one.0) ((arm one.0).read one.1))
+
+module _ {A : Type 0} (keys : List Key) (arm : Key → Form A) (lawful : (key : Key) → Lawful (arm key)) where
   pub sole_found : (ones : List (Key × Data)) (x : A) → (sole ones >>= (λ one. inside (at_key one.0) ((arm one.0).read one.1))) ≡ Ok x → IsSole arm ones x
   sole_found [] x e = absurd cc
   sole_found (one ∷ []) x e = (lawful one.0).found one.1 x (inside_ok _ _ _ e)
@@ -62,31 +71,31 @@ module _ {A : Type 0} (keys : List Key) (arm : Key → Form A) (lawful : (key : 
 
   pub one_of_found : (d : Data) (x : A) → (one_of keys arm).read d ≡ Ok x → (one_of keys arm).Spells d x
   one_of_found d x e =
-      let known = bind_ok _ _ _ e in
+      let known = bind_ok _ _ _ (sym (one_of_is keys arm d) ∙ e) in
       (only_has keys d known.1, sole_found (live keys d) x known.2)
 
   pub one_of_only : (d : Data) (x : A) → (one_of keys arm).Spells d x → (one_of keys arm).read d ≡ Ok x
-  one_of_only d x h = rw (has_only_ok keys d h.0) (sole_only (live keys d) x h.1)
+  one_of_only d x h = one_of_is keys arm d ∙ rw (has_only_ok keys d h.0) (sole_only (live keys d) x h.1)
 
   pub one_of_sound : (d : Data) (x : A) → (one_of keys arm).read d ≡ Ok x → one_of_faults keys arm d ≡ []
-  unfolding only
+  unfolding only sole_under
   one_of_sound null x e = absurd cc
   one_of_sound (boolean b) x e = absurd cc
   one_of_sound (number n) x e = absurd cc
   one_of_sound (string s) x e = absurd cc
   one_of_sound (array ds) x e = absurd cc
   one_of_sound (object ms) x e =
-      let all = bind_ok (known keys ms) _ _ e in
+      let all = bind_ok (known keys ms) _ _ (sym (one_of_is keys arm (object ms)) ∙ e) in
       none_both (unknown_keys keys ms) (sole_faults arm (live keys (object ms))) (known_none keys ms all.1) (sole_sound (live keys (object ms)) x all.2)
 
   pub one_of_first : (d : Data) (fault : Fault) → (one_of keys arm).read d ≡ Err fault → Begins fault (one_of_faults keys arm d)
-  unfolding only
+  unfolding only sole_under
   one_of_first null fault e = record { rest = []; is = cc }
   one_of_first (boolean b) fault e = record { rest = []; is = cc }
   one_of_first (number n) fault e = record { rest = []; is = cc }
   one_of_first (string s) fault e = record { rest = []; is = cc }
   one_of_first (array ds) fault e = record { rest = []; is = cc }
-  one_of_first (object ms) fault e = elim (bind_err (known keys ms) _ _ e) [
+  one_of_first (object ms) fault e = elim (bind_err (known keys ms) _ _ (sym (one_of_is keys arm (object ms)) ∙ e)) [
     | inl now ↦ begins_before fault (unknown_keys keys ms) (sole_faults arm (live keys (object ms))) (unknown_first keys ms fault now)
     | inr on ↦ begins_after fault (unknown_keys keys ms) (sole_faults arm (live keys (object ms))) (known_none keys ms on.1) (sole_first (live keys (object ms)) fault on.2)
   ]

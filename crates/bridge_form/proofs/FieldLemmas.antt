@@ -18,7 +18,7 @@ use Rattle.bridge_form.specs.declared.keys.Key.{Key}
 use Rattle.bridge_form.specs.declared.fields.Member.{Member}
 use Rattle.bridge_form.specs.declared.fault.Fault.{Fault}
 use Rattle.bridge_form.specs.Keys.{key_text}
-use Rattle.bridge_form.specs.Left.{Slots, all_seen, are_apart, held_at, held_from}
+use Rattle.bridge_form.specs.Left.{ByNumber, members_seen, are_apart, held_at, held_from}
 use Rattle.bridge_form.specs.inside.Numbering.{key_number, numbered, or_unknown, place_of, slot, without}
 use Rattle.bridge_form.specs.Form.{members_in}
 use Rattle.bridge_form.specs.Reading.{◌>>=◌, is_one_of, known, not_null, only, under, unless_known}
@@ -82,76 +82,76 @@ told_apart m n (inr h) other = h.0
 differs : (m n : ℕ) → ¬ (m ≡ n) → nat_eq m n ≡ false
 differs m n other = told_apart m n (eqb_tells m n) other
 
-found_member : (ms : List Member) (i : ℕ) (d : Member) (n : ℕ) → i < length ms → place_of n (all_seen (take i ms)) ≡ None
-    → nat_eq (get_or ms i d).number n ≡ true → place_of n (all_seen ms) ≡ Some i
+found_member : (ms : List Member) (i : ℕ) (d : Member) (n : ℕ) → i < length ms → place_of n (members_seen (take i ms)) ≡ None
+    → nat_eq (get_or ms i d).number n ≡ true → place_of n (members_seen ms) ≡ Some i
 found_member [] i d n lt before e = absurd (omega arith)
 found_member (m ∷ ms) zero d n lt before e = rw e refl
 found_member (m ∷ ms) (suc i) d n lt before e =
-    let h = not_here (nat_eq m.number n) (place_of n (all_seen (take i ms))) before in
+    let h = not_here (nat_eq m.number n) (place_of n (members_seen (take i ms))) before in
     rw (h.0, found_member ms i d n (omega arith) h.1 e) refl
 
-no_member : (ms : List Member) (i : ℕ) (d : Member) (n : ℕ) → i < length ms → place_of n (all_seen (take i ms)) ≡ None
-    → nat_eq (get_or ms i d).number n ≡ false → place_of n (all_seen (take (suc i) ms)) ≡ None
+no_member : (ms : List Member) (i : ℕ) (d : Member) (n : ℕ) → i < length ms → place_of n (members_seen (take i ms)) ≡ None
+    → nat_eq (get_or ms i d).number n ≡ false → place_of n (members_seen (take (suc i) ms)) ≡ None
 no_member [] i d n lt before e = absurd (omega arith)
 no_member (m ∷ ms) zero d n lt before e = rw e refl
 no_member (m ∷ ms) (suc i) d n lt before e =
-    let h = not_here (nat_eq m.number n) (place_of n (all_seen (take i ms))) before in
+    let h = not_here (nat_eq m.number n) (place_of n (members_seen (take i ms))) before in
     rw (h.0, no_member ms i d n (omega arith) h.1 e) refl
 
-pub found_here : (ms : List Member) (i : ℕ) (m : Member) (n : ℕ) → i < length ms → m ≡ get_or ms i m → place_of n (all_seen (take i ms)) ≡ None
-    → m.number ≡ n → place_of n (all_seen ms) ≡ Some i
+pub found_here : (ms : List Member) (i : ℕ) (m : Member) (n : ℕ) → i < length ms → m ≡ get_or ms i m → place_of n (members_seen (take i ms)) ≡ None
+    → m.number ≡ n → place_of n (members_seen ms) ≡ Some i
 found_here ms i m n lt is before e = found_member ms i m n lt before (rw (← is) (eq-eqb m.number n e))
 
-pub none_yet : (ms : List Member) (i : ℕ) (m : Member) (n : ℕ) → i < length ms → m ≡ get_or ms i m → place_of n (all_seen (take i ms)) ≡ None
-    → ¬ (m.number ≡ n) → place_of n (all_seen (take (i + 1) ms)) ≡ None
+pub none_yet : (ms : List Member) (i : ℕ) (m : Member) (n : ℕ) → i < length ms → m ≡ get_or ms i m → place_of n (members_seen (take i ms)) ≡ None
+    → ¬ (m.number ≡ n) → place_of n (members_seen (take (i + 1) ms)) ≡ None
 none_yet ms i m n lt is before other = rw add-one (no_member ms i m n lt before (rw (← is) (differs m.number n other)))
 
 -- the place that is found is one of them
-pub place_within : (n : ℕ) (ms : List Member) (place : ℕ) → place_of n (all_seen ms) ≡ Some place → place < length ms
+pub place_within : (n : ℕ) (ms : List Member) (place : ℕ) → place_of n (members_seen ms) ≡ Some place → place < length ms
 place_within n [] place e = absurd cc
 place_within n (m ∷ ms) zero e = omega arith
-place_within n (m ∷ ms) (suc place) e = let h = later (nat_eq m.number n) (place_of n (all_seen ms)) place e in
+place_within n (m ∷ ms) (suc place) e = let h = later (nat_eq m.number n) (place_of n (members_seen ms)) place e in
     omega (arith, place_within n ms place h.1)
 
-pub held_there : (n : ℕ) (ms : List Member) (place : ℕ) (d : Member) → place_of n (all_seen ms) ≡ Some place
-    → option_map view (slice_index_or ms place d).value ≡ held_at n (all_seen ms)
+pub held_there : (n : ℕ) (ms : List Member) (place : ℕ) (d : Member) → place_of n (members_seen ms) ≡ Some place
+    → option_map view (slice_index_or ms place d).value ≡ held_at n (members_seen ms)
 held_there n [] place d e = absurd cc
-held_there n (m ∷ ms) zero d e = rw (first (nat_eq m.number n) (place_of n (all_seen ms)) e) refl
-held_there n (m ∷ ms) (suc place) d e = let h = later (nat_eq m.number n) (place_of n (all_seen ms)) place e in
+held_there n (m ∷ ms) zero d e = rw (first (nat_eq m.number n) (place_of n (members_seen ms)) e) refl
+held_there n (m ∷ ms) (suc place) d e = let h = later (nat_eq m.number n) (place_of n (members_seen ms)) place e in
     rw h.0 (held_there n ms place d h.1)
 
-pub taken_there : (n : ℕ) (ms : List Member) (place : ℕ) (d : Member) → place_of n (all_seen ms) ≡ Some place
-    → all_seen (slice_set ms place (record { number = (slice_index_or ms place d).number; value = None })) ≡ without n (all_seen ms)
+pub taken_there : (n : ℕ) (ms : List Member) (place : ℕ) (d : Member) → place_of n (members_seen ms) ≡ Some place
+    → members_seen (slice_set ms place (record { number = (slice_index_or ms place d).number; value = None })) ≡ without n (members_seen ms)
 taken_there n [] place d e = absurd cc
-taken_there n (m ∷ ms) zero d e = rw (first (nat_eq m.number n) (place_of n (all_seen ms)) e) refl
-taken_there n (m ∷ ms) (suc place) d e = let h = later (nat_eq m.number n) (place_of n (all_seen ms)) place e in
+taken_there n (m ∷ ms) zero d e = rw (first (nat_eq m.number n) (place_of n (members_seen ms)) e) refl
+taken_there n (m ∷ ms) (suc place) d e = let h = later (nat_eq m.number n) (place_of n (members_seen ms)) place e in
     rw h.0 (ap (λ slots. (m.number, option_map view m.value) ∷ slots) (taken_there n ms place d h.1))
 
-pub none_held : (n : ℕ) (slots : Slots) → place_of n slots ≡ None → held_at n slots ≡ None
+pub none_held : (n : ℕ) (slots : ByNumber) → place_of n slots ≡ None → held_at n slots ≡ None
 none_held n [] e = refl
 none_held n (s ∷ slots) e = let h = not_here (nat_eq s.0 n) (place_of n slots) e in rw h.0 (none_held n slots h.1)
 
-pub none_taken : (n : ℕ) (slots : Slots) → place_of n slots ≡ None → slots ≡ without n slots
+pub none_taken : (n : ℕ) (slots : ByNumber) → place_of n slots ≡ None → slots ≡ without n slots
 none_taken n [] e = refl
 none_taken n (s ∷ slots) e = let h = not_here (nat_eq s.0 n) (place_of n slots) e in rw h.0 (ap (λ others. s ∷ others) (none_taken n slots h.1))
 
 -- ---- the next key
 
-held_case : (b : Bool) (s : ℕ × Option Data) (slots : Slots) (m n : ℕ) → nat_eq s.0 n ≡ b → ¬ (n ≡ m) → held_at m (without n slots) ≡ held_at m slots
+held_case : (b : Bool) (s : ℕ × Option Data) (slots : ByNumber) (m n : ℕ) → nat_eq s.0 n ≡ b → ¬ (n ≡ m) → held_at m (without n slots) ≡ held_at m slots
     → held_at m (if b then (s.0, None) ∷ slots else s ∷ without n slots) ≡ held_at m (s ∷ slots)
 held_case true s slots m n here apart others = let is : s.0 ≡ n = eqb-true s.0 n here in
     rw (differs s.0 m (λ same. apart (sym is ∙ same))) refl
 held_case false s slots m n here apart others = ap (λ x. if nat_eq s.0 m then s.1 else x) others
 
 -- another member is held as it was
-held_other : (m n : ℕ) (slots : Slots) → ¬ (n ≡ m) → held_at m (without n slots) ≡ held_at m slots
+held_other : (m n : ℕ) (slots : ByNumber) → ¬ (n ≡ m) → held_at m (without n slots) ≡ held_at m slots
 held_other m n [] apart = refl
 held_other m n (s ∷ slots) apart = held_case (nat_eq s.0 n) s slots m n refl apart (held_other m n slots apart)
 
 below_apart : (m n : ℕ) → n < m → ¬ (n ≡ m)
 below_apart m n lt same = omega (arith, lt, same)
 
-held_beyond : (m n : ℕ) (keys : List Key) (slots : Slots) → n < m → held_from m keys (without n slots) ≡ held_from m keys slots
+held_beyond : (m n : ℕ) (keys : List Key) (slots : ByNumber) → n < m → held_from m keys (without n slots) ≡ held_from m keys slots
 held_beyond m n [] slots lt = refl
 held_beyond m n (k ∷ keys) slots lt = rw (held_other m n slots (below_apart m n lt), held_beyond (suc m) n keys slots (omega (arith, lt))) refl
 
@@ -182,7 +182,7 @@ head_is x y xs ys e = cc
 tail_is : {A : Type 0} (x y : A) (xs ys : List A) → x ∷ xs ≡ y ∷ ys → xs ≡ ys
 tail_is x y xs ys e = cc
 
-module _ (all : List Key) (n : ℕ) (key other : Key) (keys : List Key) (d : Data) (slots : Slots) (left : drop n all ≡ key ∷ keys)
+module _ (all : List Key) (n : ℕ) (key other : Key) (keys : List Key) (d : Data) (slots : ByNumber) (left : drop n all ≡ key ∷ keys)
     (held : held_from n (key ∷ keys) slots ≡ map (λ k. under k d) (key ∷ keys)) where
   pub next_seen : (get_or all n other ≡ key) × (held_at n slots ≡ under key d)
   next_seen = (at_drop all n other key keys left, head_is _ _ _ _ held)
@@ -246,27 +246,27 @@ all_numbered (k ∷ keys) apart =
     (λ text. first_number (bytes_eq (key_text k) text) (key_number keys text), shifted k keys zero keys (none_of (is_one_of keys (key_text k)) h.0) (all_numbered keys h.1))
 
 -- members one after the other, in a list of their own
-abbrev after_it : (ℕ → Slots → Slots) → Option ℕ → List ℕ → Result Slots Fault → Result Slots Fault
+abbrev pub after_it : (ℕ → ByNumber → ByNumber) → Option ℕ → List ℕ → Result ByNumber Fault → Result ByNumber Fault
 after_it f o text rest = or_unknown o text (λ n. rest >>= (λ slots. Ok (f n slots)))
 
-abbrev listed : List Key → Members → Result Slots Fault
+abbrev pub listed : List Key → Members → Result ByNumber Fault
 listed keys no_members = Ok []
 listed keys (member text d ms) = after_it (λ n slots. slot n (not_null d) ++ slots) (key_number keys text) text (listed keys ms)
 
-front_case : (o : Option ℕ) (text : List ℕ) (x : Option Data) (slots : Slots) (rest : Result Slots Fault) (next : ℕ → Result Slots Fault)
+front_case : (o : Option ℕ) (text : List ℕ) (x : Option Data) (slots : ByNumber) (rest : Result ByNumber Fault) (next : ℕ → Result ByNumber Fault)
     → ((n : ℕ) → next n ≡ (rest >>= (λ found. Ok ((slots ++ slot n x) ++ found))))
     → or_unknown o text next ≡ (after_it (λ n others. slot n x ++ others) o text rest >>= (λ found. Ok (slots ++ found)))
 front_case None text x slots rest next e = refl
 front_case (Some n) text x slots (Ok found) next e = e n ∙ ap Ok (append_assoc slots (slot n x) found)
 front_case (Some n) text x slots (Err fault) next e = e n
 
-front : (keys : List Key) (slots : Slots) (ms : Members) → numbered keys slots ms ≡ (listed keys ms >>= (λ found. Ok (slots ++ found)))
+pub front : (keys : List Key) (slots : ByNumber) (ms : Members) → numbered keys slots ms ≡ (listed keys ms >>= (λ found. Ok (slots ++ found)))
 front keys slots no_members = ap Ok (sym (append-nil slots))
 front keys slots (member text d ms) = front_case (key_number keys text) text (not_null d) slots (listed keys ms) (λ n. numbered keys (slots ++ slot n (not_null d)) ms)
     (λ n. front keys (slots ++ slot n (not_null d)) ms)
 
 -- whether there are some
-abbrev unit_of : Result Slots Fault → Result (Unit {0}) Fault
+abbrev pub unit_of : Result ByNumber Fault → Result (Unit {0}) Fault
 unit_of (Ok slots) = Ok tt
 unit_of (Err fault) = Err fault
 
@@ -280,7 +280,7 @@ knows (k ∷ keys) text = knows_at (bytes_eq (key_text k) text) (key_number keys
     knows_at false None one e = e
     knows_at false (Some n) one e = e
 
-known_case : (f : ℕ → Slots → Slots) (o : Option ℕ) (one : Bool) (text : List ℕ) (rest : Result Slots Fault) (others : Result (Unit {0}) Fault) → is_some o ≡ one
+known_case : (f : ℕ → ByNumber → ByNumber) (o : Option ℕ) (one : Bool) (text : List ℕ) (rest : Result ByNumber Fault) (others : Result (Unit {0}) Fault) → is_some o ≡ one
     → unit_of rest ≡ others → unit_of (after_it f o text rest) ≡ unless_known one text others
 known_case f None true text rest others e is = absurd cc
 known_case f None false text rest others e is = refl
@@ -289,7 +289,7 @@ known_case f (Some n) true text (Err fault) others e is = is
 known_case f (Some n) false text rest others e is = absurd cc
 
 -- members are refused where one has a key that is none of these, with its fault
-as_known : (keys : List Key) (ms : Members) → unit_of (listed keys ms) ≡ known keys ms
+pub as_known : (keys : List Key) (ms : Members) → unit_of (listed keys ms) ≡ known keys ms
 as_known keys no_members = refl
 as_known keys (member text d ms) = known_case (λ n slots. slot n (not_null d) ++ slots) (key_number keys text) (is_one_of keys text) text (listed keys ms) (known keys ms)
     (knows keys text) (as_known keys ms)
@@ -318,16 +318,16 @@ distinct (e ∷ es) sorted = (none_above e.0 es sorted.0, distinct es sorted.1)
 -- ---- what stands under a key
 
 -- a member that isn't the key's
-passed : (m n : ℕ) (x : Option Data) (slots : Slots) → nat_eq m n ≡ false → held_at n (slot m x ++ slots) ≡ held_at n slots
+passed : (m n : ℕ) (x : Option Data) (slots : ByNumber) → nat_eq m n ≡ false → held_at n (slot m x ++ slots) ≡ held_at n slots
 passed m n None slots other = refl
 passed m n (Some d) slots other = rw other refl
 
 -- the key's member, after which there is no other
-reached : (m n : ℕ) (x : Option Data) (slots : Slots) → nat_eq m n ≡ true → held_at n slots ≡ None → held_at n (slot m x ++ slots) ≡ x
+reached : (m n : ℕ) (x : Option Data) (slots : ByNumber) → nat_eq m n ≡ true → held_at n slots ≡ None → held_at n (slot m x ++ slots) ≡ x
 reached m n None slots here none = none
 reached m n (Some d) slots here none = rw here refl
 
-held_by : (o : Ordering) (b : Bool) (m n : ℕ) (d : Data) (slots : Slots) (found : Option Data) → is_eq o ≡ b → nat_eq m n ≡ b → (o ≡ Equal → found ≡ None)
+held_by : (o : Ordering) (b : Bool) (m n : ℕ) (d : Data) (slots : ByNumber) (found : Option Data) → is_eq o ≡ b → nat_eq m n ≡ b → (o ≡ Equal → found ≡ None)
     → held_at n slots ≡ option_and_then not_null found → held_at n (slot m (not_null d) ++ slots) ≡ option_and_then not_null (match_ordering o found (Some d) found)
 held_by Less true m n d slots found is here once e = absurd cc
 held_by Less false m n d slots found is here once e = passed m n (not_null d) slots here ∙ e
@@ -336,22 +336,22 @@ held_by Equal false m n d slots found is here once e = absurd cc
 held_by Greater true m n d slots found is here once e = absurd cc
 held_by Greater false m n d slots found is here once e = passed m n (not_null d) slots here ∙ e
 
-given : (f : ℕ → Slots → Slots) (o : Option ℕ) (text : List ℕ) (rest : Result Slots Fault) (slots : Slots) → after_it f o text rest ≡ Ok slots
-    → (m : ℕ) × (found : Slots) × (o ≡ Some m) × (rest ≡ Ok found) × (slots ≡ f m found)
+pub given : (f : ℕ → ByNumber → ByNumber) (o : Option ℕ) (text : List ℕ) (rest : Result ByNumber Fault) (slots : ByNumber) → after_it f o text rest ≡ Ok slots
+    → (m : ℕ) × (found : ByNumber) × (o ≡ Some m) × (rest ≡ Ok found) × (slots ≡ f m found)
 given f None text rest slots e = absurd cc
 given f (Some m) text (Ok found) slots e = (m, found, refl, refl, cc)
 given f (Some m) text (Err fault) slots e = absurd cc
 
-none_listed : (n : ℕ) (slots : Slots) → [] ≡ slots → held_at n slots ≡ None
+none_listed : (n : ℕ) (slots : ByNumber) → [] ≡ slots → held_at n slots ≡ None
 none_listed n [] e = refl
 none_listed n (s ∷ slots) e = absurd cc
 
-ok_is : (one other : Slots) (r : Result Slots Fault) → r ≡ Ok one → r ≡ Ok other → one ≡ other
+ok_is : (one other : ByNumber) (r : Result ByNumber Fault) → r ≡ Ok one → r ≡ Ok other → one ≡ other
 ok_is one other (Ok r) e f = cc
 ok_is one other (Err fault) e f = absurd cc
 
 module _ (keys : List Key) (k : Key) (n : ℕ) (numbers : (text : List ℕ) → is_number n (key_number keys text) ≡ bytes_eq (key_text k) text) where
-  held_under : (ms : Members) (slots : Slots) → AreDistinct ms → listed keys ms ≡ Ok slots → held_at n slots ≡ option_and_then not_null (get_member (key_text k) ms)
+  held_under : (ms : Members) (slots : ByNumber) → AreDistinct ms → listed keys ms ≡ Ok slots → held_at n slots ≡ option_and_then not_null (get_member (key_text k) ms)
   held_under no_members slots once e = none_listed n slots (ok_is [] slots (Ok []) refl e)
   held_under (member text d ms) slots once e =
       let h = given (λ m others. slot m (not_null d) ++ others) (key_number keys text) text (listed keys ms) slots e in
@@ -362,12 +362,12 @@ module _ (keys : List Key) (k : Key) (n : ℕ) (numbers : (text : List ℕ) → 
       λ is. let same : key_text k ≡ text = (bytes_eq-Decides (key_text k) text).0 (sym eqs ∙ ap is_eq is) in rw same once.0 in
       rw h.4 (held_by o (bytes_eq (key_text k) text) h.0 n d h.1 (get_member (key_text k) ms) eqs here once_here (held_under ms h.1 once.1 h.3))
 
-under_members : (keys : List Key) (k : Key) (n : ℕ) (ms : Members) (slots : Slots) → ((text : List ℕ) → is_number n (key_number keys text) ≡ bytes_eq (key_text k) text)
+under_members : (keys : List Key) (k : Key) (n : ℕ) (ms : Members) (slots : ByNumber) → ((text : List ℕ) → is_number n (key_number keys text) ≡ bytes_eq (key_text k) text)
     → AreDistinct ms → listed keys ms ≡ Ok slots → held_at n slots ≡ under k (object ms)
 unfolding under
 under_members keys k n ms slots numbers once e = held_under keys k n numbers ms slots once e
 
-all_under : (all : List Key) (n : ℕ) (keys : List Key) (ms : Members) (slots : Slots) → AreNumbered all n keys → AreDistinct ms → listed all ms ≡ Ok slots
+all_under : (all : List Key) (n : ℕ) (keys : List Key) (ms : Members) (slots : ByNumber) → AreNumbered all n keys → AreDistinct ms → listed all ms ≡ Ok slots
     → held_from n keys slots ≡ map (λ k. under k (object ms)) keys
 all_under all n [] ms slots are once e = refl
 all_under all n (k ∷ keys) ms slots are once e = rw (under_members all k n ms slots are.0 once e, all_under all (suc n) keys ms slots are.1 once e) refl
@@ -383,16 +383,16 @@ is_object (Data.string s) ms e = absurd cc
 is_object (Data.array ds) ms e = absurd cc
 is_object (object held) ms e = cc
 
-kept : (r : Result Slots Fault) (found : Slots) → (r >>= (λ slots. Ok slots)) ≡ Ok found → r ≡ Ok found
+pub kept : (r : Result ByNumber Fault) (found : ByNumber) → (r >>= (λ slots. Ok slots)) ≡ Ok found → r ≡ Ok found
 kept (Ok slots) found e = e
 kept (Err fault) found e = absurd cc
 
-refuses : (r : Result Slots Fault) (fault : Fault) → (r >>= (λ slots. Ok slots)) ≡ Err fault → unit_of r ≡ Err fault
+refuses : (r : Result ByNumber Fault) (fault : Fault) → (r >>= (λ slots. Ok slots)) ≡ Err fault → unit_of r ≡ Err fault
 refuses (Ok slots) fault e = absurd cc
 refuses (Err other) fault e = cc
 
 module _ (keys : List Key) (es : List (String Global × Value)) (apart : are_apart keys ≡ true) (sorted : IsStrictlySortedBy string_cmp (keys_of es)) where
-  pub opened : (d : Data) (found : Slots) → members_in d ≡ Ok (members_view es) → numbered keys [] (members_view es) ≡ Ok found
+  pub opened : (d : Data) (found : ByNumber) → members_in d ≡ Ok (members_view es) → numbered keys [] (members_view es) ≡ Ok found
       → (only keys d ≡ Ok tt) × (held_from zero keys found ≡ map (λ k. under k d) keys)
   unfolding only
   opened d found is e =

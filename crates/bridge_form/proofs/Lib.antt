@@ -1,5 +1,4 @@
 pub mod ChoiceLaws
-pub mod ChoiceLemmas
 pub mod DictionaryLaws
 pub mod FieldLemmas
 pub mod FormLaws
@@ -8,3 +7,4 @@ pub mod ObjectLaws
 pub mod PairLaws
 pub mod PartLaws
 pub mod Proved
+pub mod SoleLemmas

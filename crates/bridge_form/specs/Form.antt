@@ -262,6 +262,10 @@ sole [] = Err (here kind.WrongForm)
 sole (one ∷ []) = Ok one
 sole (one ∷ other ∷ others) = Err (here kind.WrongForm)
 
+-- the one key of an object under which something stands, with what stands there
+unfoldable pub sole_under : List Key → Data → Result (Key × Data) Fault
+sole_under keys d = only keys d >>= (λ known. sole (live keys d))
+
 abbrev pub one_of_faults : {A : Type 0} → List Key → (Key → Form A) → Data → List Fault
 one_of_faults keys arm null = wrong
 one_of_faults keys arm (boolean b) = wrong
@@ -276,7 +280,7 @@ one_of keys arm =
     record {
       Spells = λ d x. IsTrue (has_only keys d) × IsSole arm (live keys d) x;
       faults = one_of_faults keys arm;
-      read = λ d. only keys d >>= (λ known. sole (live keys d) >>= (λ one. inside (at_key one.0) ((arm one.0).read one.1)));
+      read = λ d. sole_under keys d >>= (λ one. inside (at_key one.0) ((arm one.0).read one.1));
     }
 
 -- what no value spells

@@ -1,4 +1,3 @@
-pub mod Choices
 pub mod Form
 pub mod Given
 pub mod Keys

@@ -1,15 +1,16 @@
 //! Objects: each member gets the number of its key in the form, and the members are then taken in the order of the form.
 
-ghost use Rattle.std.specs.Prelude.{◌≡◌, ℕ, ◌<◌, [], ◌∷◌, ◌++◌, true, length, List, Some, OnOk, option_map, string_cmp};
+ghost use Rattle.std.specs.Prelude.{◌≡◌, ℕ, ◌<◌, ◌≤◌, [], ◌∷◌, ◌++◌, true, length, List, None, Some, OnOk, option_map, string_cmp};
 ghost use Rattle.std.specs.BTreeMap.{keys};
 ghost use Rattle.std.specs.List.Sorted.{IsStrictlySortedBy};
 ghost use Rattle.serde_json.specs.Data.{Data};
 ghost use Rattle.serde_json.specs.View.{view, members_view};
 ghost use Rattle.bridge_form.specs.declared.keys.Key.{Key as Name};
+ghost use Rattle.bridge_form.specs.Form.{sole_under};
 ghost use Rattle.bridge_form.specs.Reading.{not_null, under};
 ghost use Rattle.bridge_form.specs.Given.{GivesBy};
-ghost use Rattle.bridge_form.specs.Left.{IsLeft, Opens, all_seen, are_apart, held_at, seen};
-ghost use Rattle.bridge_form.specs.inside.Numbering.{key_number, numbered, place_of, slot, without};
+ghost use Rattle.bridge_form.specs.Left.{IsLeft, Opens, are_apart, held_at, members_seen, one_seen, seen};
+ghost use Rattle.bridge_form.specs.inside.Numbering.{alone, key_number, numbered, place_of, slot, without};
 
 use crate::fault::{Fault, ReadFault};
 use crate::keys::Key;
@@ -17,15 +18,6 @@ use crate::objects::members;
 use bridge_text::NoMemory;
 use serde_json::{Map, Value};
 use std::alloc::Global;
-
-/// A key of an object's form, with what stands under it.
-#[derive(Drop)]
-pub struct Field {
-    /// The key.
-    pub key: Key,
-    /// What stands under it; null stands for nothing.
-    pub value: Option<Value>,
-}
 
 /// A member of an object, which isn't null.
 #[derive(Drop)]
@@ -62,29 +54,50 @@ impl<'k> Fields<'k> {
         })
     }
 
-    /// The next key, with what stands under it.
-    pub fn next(&mut self) -> Field
-        ensures { (key : Name) (keys : List Name) (d : Data) → IsLeft self.old (key ∷ keys) d
-            → (seen result ≡ (key, under key d)) × IsLeft self.new keys d }
+    /// The next key, with what stands under it, where null stands for nothing; none where no key is left.
+    pub fn next(&mut self) -> Option<(Key, Option<Value>)>
+        ensures ends { length self.old.keys.now ≤ self.old.read → result ≡ None }
+        ensures left { (key : Name) (keys : List Name) (d : Data) → IsLeft self.old (key ∷ keys) d
+            → (option_map seen result ≡ Some (key, under key d)) × IsLeft self.new keys d }
     {
         let number = self.read;
         if number < self.keys.len() {
             self.read = number + 1;
-            return Field {
-                key: self.keys[number],
-                value: take(&mut self.members, number),
-            };
+            return Some((self.keys[number], take(&mut self.members, number)));
         }
-        Field {
-            key: Key::Root,
-            value: None,
-        }
+        None
     }
+}
+
+/// The one key of an object under which something stands, with what stands there; the fault of a value that is no object, or of its first
+/// key that is none of these; else the wrong form, where something stands under no key or under more than one.
+#[tactic(auto, using(crate::proofs::SoleLemmas::sole_refused, crate::proofs::SoleLemmas::sole_no_object))]
+pub fn sole(alloc: Global, value: Value, form: &[Key]) -> Result<(Key, Value), ReadFault>
+    requires { are_apart form.now ≡ true }
+    ensures { GivesBy one_seen result (sole_under form.now (view value)) }
+{
+    let members = number_all(alloc, form, members(alloc, value)?)?;
+    match alone(members) {
+        Some((number, value)) => Ok((form[number], value)),
+        None => Err(ReadFault::wrong_form(alloc)),
+    }
+}
+
+/// The number of the only member, with its value.
+#[tactic(auto, using(crate::proofs::SoleLemmas::alone_more))]
+fn alone(mut members: Vec<Member>) -> Option<(usize, Value)>
+    ensures { option_map (λ one. (one.0, view one.1)) result ≡ alone (members_seen members.items) }
+{
+    let Member { number, value } = members.pop()?;
+    if members.is_empty() {
+        return Some((number, value?));
+    }
+    None
 }
 
 /// The place of the first member whose key has that number.
 fn place_of(members: &[Member], number: usize) -> Option<usize>
-    ensures { result ≡ place_of number (all_seen members.now) }
+    ensures { result ≡ place_of number (members_seen members.now) }
 {
     for (place, member) in members.iter().enumerate() {
         if member.number == number {
@@ -97,10 +110,10 @@ fn place_of(members: &[Member], number: usize) -> Option<usize>
 /// Takes what the member of that place holds.
 fn take_at(members: &mut [Member], place: usize) -> Option<Value>
     requires { place < length members.old }
-    ensures taken { (number : ℕ) → place_of number (all_seen members.old) ≡ Some place
-        → option_map view result ≡ held_at number (all_seen members.old) }
-    ensures left { (number : ℕ) → place_of number (all_seen members.old) ≡ Some place
-        → all_seen members.new ≡ without number (all_seen members.old) }
+    ensures taken { (number : ℕ) → place_of number (members_seen members.old) ≡ Some place
+        → option_map view result ≡ held_at number (members_seen members.old) }
+    ensures left { (number : ℕ) → place_of number (members_seen members.old) ≡ Some place
+        → members_seen members.new ≡ without number (members_seen members.old) }
 {
     members[place].value.take()
 }
@@ -108,8 +121,8 @@ fn take_at(members: &mut [Member], place: usize) -> Option<Value>
 /// Takes what stands under the key of that number.
 #[tactic(auto, using(crate::proofs::FieldLemmas::place_within, crate::proofs::FieldLemmas::none_held, crate::proofs::FieldLemmas::none_taken))]
 fn take(members: &mut Vec<Member>, number: usize) -> Option<Value>
-    ensures taken { option_map view result ≡ held_at number (all_seen members.old.items) }
-    ensures left { all_seen members.new.items ≡ without number (all_seen members.old.items) }
+    ensures taken { option_map view result ≡ held_at number (members_seen members.old.items) }
+    ensures left { members_seen members.new.items ≡ without number (members_seen members.old.items) }
 {
     match place_of(members.as_slice(), number) {
         Some(place) => take_at(members.as_mut_slice(), place),
@@ -118,7 +131,7 @@ fn take(members: &mut Vec<Member>, number: usize) -> Option<Value>
 }
 
 /// The number of the key of that name.
-pub fn key_number(keys: &[Key], name: &str) -> Option<usize>
+fn key_number(keys: &[Key], name: &str) -> Option<usize>
     ensures { result ≡ key_number keys.now name.now }
 {
     for (number, key) in keys.iter().enumerate() {
@@ -131,8 +144,8 @@ pub fn key_number(keys: &[Key], name: &str) -> Option<usize>
 
 /// Adds the member under the key of that number; null is none.
 fn add(members: &mut Vec<Member>, number: usize, value: Value) -> Result<(), NoMemory>
-    ensures { OnOk result (all_seen members.new.items
-        ≡ all_seen members.old.items ++ slot number (not_null (view value))) }
+    ensures { OnOk result (members_seen members.new.items
+        ≡ members_seen members.old.items ++ slot number (not_null (view value))) }
 {
     if value.is_null() {
         return Ok(());
@@ -150,7 +163,7 @@ fn number_all(
     form: &[Key],
     mut members: Map<String, Value>,
 ) -> Result<Vec<Member>, ReadFault>
-    ensures numbered { GivesBy (λ found. all_seen found.items) result
+    ensures numbered { GivesBy (λ found. members_seen found.items) result
         (numbered form.now [] (members_view members.entries)) }
     ensures ordered { IsStrictlySortedBy string_cmp (keys members) }
 {

@@ -10,8 +10,8 @@
 //! of its key in the form, and stops at `colour`, which is none of them: `unknown key` at `/colour`, though null stands there. Without
 //! `colour`, `Fields::next` gives `name` with `"a"`, `longer` with the list, and `shorter` with nothing, one after the other.
 //!
-//! Of some objects one key alone may have something under it, as of a type: `{"box": "u8", "str": null}`. `Choice::of` passes over the
-//! members in the same way, and `Choice::sole` has `box` with `"u8"`; where there are none or more, it has the wrong form.
+//! Of some objects one key alone may have something under it, as of a type: `{"box": "u8", "str": null}`. `sole` passes over the
+//! members in the same way, and has `box` with `"u8"`; where there are none or more, it has the wrong form.
 //!
 //! A `Fault` is told with a `Pointer` (RFC 6901) to its place, which grows from the inside out: what is wrong in the first entry of the list
 //! is at `/0`, and `in_member` makes `/longer/0` of that. Values are handed on by value, and null is as good as no member at all.
@@ -20,16 +20,16 @@
 //! first fault where there is one. `proofs/` has the laws of all forms, that these three agree.
 #![tactic(auto)]
 
-mod choice;
 mod fault;
 mod fields;
 mod keys;
 mod objects;
 mod pointer;
 
-pub use choice::Choice;
 pub use fault::{Fault, InputKind, ReadFault};
-pub use fields::{Field, Fields, Member};
+pub use fields::{Fields, Member, sole};
 pub use keys::Key;
-pub use objects::{in_entry, in_member, in_member_named, members, object, under};
+pub use objects::{
+    entries, in_entry, in_member, in_member_named, members, object, owned_text, text, under,
+};
 pub use pointer::{Pointer, Step};

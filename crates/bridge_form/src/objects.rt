@@ -1,11 +1,11 @@
-//! Objects and lists of the form, whatever they spell.
+//! Objects, lists and texts of the form, whatever they spell.
 
-ghost use Rattle.std.specs.Prelude.{◌≡◌, option_map, Result};
-ghost use Rattle.serde_json.specs.View.{view, members_view};
+ghost use Rattle.std.specs.Prelude.{◌≡◌, option_map, string_bytes, Result};
+ghost use Rattle.serde_json.specs.View.{view, items_view, members_view};
 ghost use Rattle.bridge_form.specs.declared.fault.Fault.{Fault as Wrong};
 ghost use Rattle.bridge_form.specs.declared.pointer.Step.TheVariants as step;
 ghost use Rattle.bridge_form.specs.Form.{members_in, object_of};
-ghost use Rattle.bridge_form.specs.Reading.{at_key, inside, under};
+ghost use Rattle.bridge_form.specs.Reading.{at_key, entries_of, inside, text_of, under};
 ghost use Rattle.bridge_form.specs.Given.{Gives, GivesBy};
 
 use crate::fault::ReadFault;
@@ -92,5 +92,42 @@ pub fn object(alloc: Global, value: &Value) -> Result<(), ReadFault>
     match value.as_object() {
         Some(_) => Ok(()),
         None => Err(ReadFault::wrong_form(alloc)),
+    }
+}
+
+/// The text that a value is, lent.
+#[tactic(auto, unfolding(crate::specs::Reading::text_of))]
+pub fn text(alloc: Global, value: &Value) -> Result<&str, ReadFault>
+    ensures { GivesBy (λ s. s.now) result (text_of (view value.now)) }
+{
+    match value.as_str() {
+        Some(text) => Ok(text),
+        None => Err(ReadFault::wrong_form(alloc)),
+    }
+}
+
+/// The text that a value is.
+#[tactic(auto, unfolding(crate::specs::Reading::text_of))]
+pub fn owned_text(alloc: Global, value: Value) -> Result<String, ReadFault>
+    ensures { GivesBy string_bytes result (text_of (view value)) }
+{
+    match value {
+        Value::String(text) => Ok(text),
+        Value::Null | Value::Bool(_) | Value::Number(_) | Value::Array(_) | Value::Object(_) => {
+            Err(ReadFault::wrong_form(alloc))
+        }
+    }
+}
+
+/// The entries of a list.
+#[tactic(auto, unfolding(crate::specs::Reading::entries_of))]
+pub fn entries(alloc: Global, value: Value) -> Result<Vec<Value>, ReadFault>
+    ensures { GivesBy (λ vs. items_view vs.items) result (entries_of (view value)) }
+{
+    match value {
+        Value::Array(entries) => Ok(entries),
+        Value::Null | Value::Bool(_) | Value::Number(_) | Value::String(_) | Value::Object(_) => {
+            Err(ReadFault::wrong_form(alloc))
+        }
     }
 }

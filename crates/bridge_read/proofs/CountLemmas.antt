@@ -8,12 +8,12 @@ use Rattle.bridge_form.specs.declared.keys.Key.TheVariants as key
 use Rattle.bridge_read.specs.declared.modules.Contents.{Contents}
 use Rattle.bridge_form.specs.declared.pointer.Step.TheVariants.{Index}
 use Rattle.bridge_form.specs.Form.{Form, Each, IsList, NeededAt, HeldAt}
-use Rattle.bridge_read.specs.Pointers.{in_entries, in_modules, in_root, items_of, module_pointers, modules_within}
+use Rattle.bridge_pointers.specs.Pointers.{in_entries, in_modules, in_root, items_of, module_pointers, modules_within}
 use Rattle.bridge_form.specs.Reading.{at_key, under}
 use Rattle.bridge_read.specs.forms.Inputs.{no_backend, whole}
 use Rattle.bridge_read.specs.forms.Modules.{any_text, contents, in_a_row, module_of, module_within, nested_in, path_in, root}
 use Rattle.bridge_read.specs.forms.Settings.{backend, config, no_config, urls, no_urls}
-use Rattle.bridge_read.proofs.PointerLemmas.{length_both}
+use Rattle.bridge_pointers.proofs.PointerLemmas.{length_both}
 use Rattle.bridge_read.proofs.forms.Modules.{contents_lawful}
 
 abbrev given : {A : Type 0} → A → Option A

@@ -15,6 +15,7 @@ use Rattle.bridge_form.specs.declared.keys.Key.{Key}
 use Rattle.bridge_form.specs.declared.keys.Key.TheVariants as key
 use Rattle.bridge_read.specs.Agree.{SaySame, CutsNothing}
 use Rattle.bridge_form.specs.Form.{Form, Parts, Each, each_faults, list, object_faults, object_with, unknown_keys, made, ◌&◌, needs, NeededAt, needed_faults, may_have, OptionalAt, may_be, may_be_by, told, grouped, HeldAt, optional_faults, refined, mapped, word_or, TextOr, text_or, one_of, one_of_faults, never, add_live, live, sole, IsSole, sole_faults, inside_faults, text, flag, two}
+use Rattle.bridge_form.proofs.ChoiceLaws.{one_of_is, sole_read}
 use Rattle.bridge_form.specs.Keys.{key_text}
 use Rattle.bridge_form.specs.Reading.{◌>>=◌, at_key, each_of, entries_of, held_of, inside, needed_of, not_null, only, optional_of, or_wrong_at, under, has_only}
 use Rattle.bridge_read.specs.forms.Attrs.{condition_keys, condition_under, condition_within, condition_word, pair_condition}
@@ -255,10 +256,7 @@ module _ {A : Type 0} (keys : List Key) (arm other : Key → Form A) where
     live_same [] = tt
     live_same (k ∷ ks) = add_same k (under k d) (live ks d) refl (live_same ks)
 
-  abbrev sole_read : (Key → Form A) → List (Key × Data) → Result A Fault
-  sole_read arms l = sole l >>= (λ one. inside (at_key one.0) ((arms one.0).read one.1))
-
-  sole_read_same : (l : List (Key × Data)) → SameEach l → sole_read arm l ≡ sole_read other l
+  sole_read_same : (l : List (Key × Data)) → SameEach l → sole_read keys arm l ≡ sole_read keys other l
   sole_read_same [] h = refl
   sole_read_same (one ∷ []) h = ap (inside (at_key one.0)) h.0.read
   sole_read_same (one ∷ two ∷ more) h = refl
@@ -290,7 +288,7 @@ module _ {A : Type 0} (keys : List Key) (arm other : Key → Form A) where
   one_of_same d same =
       let all = live_same d same keys in
       record {
-        read = ap (λ r. only keys d >>= (λ known. r)) (sole_read_same (live keys d) all);
+        read = one_of_is keys arm d ∙ ap (λ r. only keys d >>= (λ known. r)) (sole_read_same (live keys d) all) ∙ sym (one_of_is keys other d);
         faults = one_faults_same d all;
         there = λ x h. (h.0, sole_there (live keys d) x all h.1);
         back = λ x h. (h.0, sole_back (live keys d) x all h.1);

@@ -13,7 +13,7 @@ use Rattle.bridge_form.specs.declared.pointer.Step.TheVariants.{Index}
 use Rattle.bridge_form.specs.Form.{Form, Each, IsList, NeededAt, HeldAt, list}
 use Rattle.bridge_form.specs.Keys.{key_text}
 use Rattle.bridge_read.specs.ModulePlaces.{leads_to, SpellsContents, LeadsTo}
-use Rattle.bridge_read.specs.Pointers.{in_entries, in_modules, in_root, items_of, module_pointers, modules_within}
+use Rattle.bridge_pointers.specs.Pointers.{in_entries, in_modules, in_root, items_of, module_pointers, modules_within}
 use Rattle.bridge_form.specs.Reading.{at_key, not_null, under}
 use Rattle.bridge_read.specs.forms.Attrs.{attrs, no_attrs}
 use Rattle.bridge_read.specs.forms.Inputs.{no_backend, whole}

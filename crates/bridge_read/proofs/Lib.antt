@@ -6,8 +6,6 @@ pub mod LeadLemmas
 pub mod ListLemmas
 pub mod ModuleLemmas
 pub mod ParentLemmas
-pub mod PointerLemmas
 pub mod SettingLemmas
 pub mod TrueLemmas
-pub mod WordLemmas
 pub mod forms

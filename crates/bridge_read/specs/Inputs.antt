@@ -19,7 +19,7 @@ use Rattle.bridge_read.specs.declared.input.InputFault.{InputFault}
 use Rattle.bridge_read.specs.declared.input.InputFault.TheVariants.{NotDeclarations, NoMemory}
 use Rattle.bridge_form.specs.Reading.{here}
 use Rattle.bridge_form.specs.PointerTexts.{pointer_text}
-use Rattle.bridge_read.specs.Pointers.{module_pointers, place_steps}
+use Rattle.bridge_pointers.specs.Pointers.{module_pointers, place_steps}
 use Rattle.bridge_read.specs.forms.Inputs.{declared_of, whole}
 
 -- the bytes are a JSON text (RFC 8259) in UTF-8 that nests at most 127 deep and whose numbers are within a 64-bit float's range,

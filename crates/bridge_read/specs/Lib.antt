@@ -2,8 +2,6 @@ pub mod Agree
 pub mod Inputs
 pub mod ModulePlaces
 pub mod Parents
-pub mod Pointers
 pub mod TruePlaces
-pub mod Words
 pub mod forms
 pub mod inside

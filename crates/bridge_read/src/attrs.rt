@@ -7,14 +7,12 @@ ghost use Rattle.bridge_form.specs.Reading.{list_of};
 ghost use Rattle.bridge_form.specs.Given.{Gives};
 ghost use Rattle.bridge_read.specs.forms.Attrs.{condition_called, condition_keys, condition_under, condition_within, condition_word, argument_of, digits, literal_called, literal_keys, literal_under, literal_word, no_attrs, sole_char};
 
-use crate::reading::{
-    FromForm, entries, held, listed, needed, needed_some, optional, room_for, text, two,
-};
+use crate::reading::{FromForm, held, listed, needed, needed_some, optional, room_for, two};
 use bridge_ast::{
     Assign, Attrs, Boxed, DiplomatBackendAttr, DiplomatBackendAttrCfg, Items, Lit, Meta, MetaValue,
     RenameAttr, RenameFault, Text,
 };
-use bridge_form::{Choice, Fields, Key, ReadFault, in_entry, in_member};
+use bridge_form::{Fields, Key, ReadFault, entries, in_entry, in_member, sole, text};
 use serde_json::Value;
 use std::alloc::Global;
 
@@ -100,7 +98,7 @@ fn condition_within(
     if let Some(_) = value.as_str() {
         return condition_word(alloc, &value);
     }
-    let (key, found) = Choice::of(alloc, value, condition_keys())?.sole(alloc)?;
+    let (key, found) = sole(alloc, value, condition_keys())?;
     in_member(alloc, key, condition_under(alloc, key, found, inner))
 }
 
@@ -216,7 +214,7 @@ impl FromForm for Lit {
         if let Some(_) = value.as_str() {
             return literal_word(alloc, &value);
         }
-        let (key, found) = Choice::of(alloc, value, literal_keys())?.sole(alloc)?;
+        let (key, found) = sole(alloc, value, literal_keys())?;
         in_member(alloc, key, literal_under(alloc, key, found))
     }
 }

@@ -15,16 +15,16 @@ ghost use Rattle.bridge_read.specs.Agree.{CutsNothing};
 ghost use Rattle.bridge_read.specs.Inputs.{IsJsonOf, IsReadAs, IsToldOf, Refuses, SpellsInput, IsFirstOf, IsToldAs, declared_fault, kind_of};
 ghost use Rattle.bridge_read.specs.ModulePlaces.{LeadsTo};
 ghost use Rattle.bridge_read.specs.Parents.{LacksParent};
-ghost use Rattle.bridge_read.specs.Pointers.{module_pointers};
+ghost use Rattle.bridge_pointers.specs.Pointers.{module_pointers};
 ghost use Rattle.bridge_read.specs.TruePlaces.{IsPlaced};
 ghost use Rattle.bridge_read.specs.forms.Inputs.{no_backend, whole};
 ghost use Rattle.bridge_read.specs.inside.Answers.{GivesEnv, GivesForm, IsNoJson};
 
 use crate::modules::ModuleList;
-use crate::places::place_pointer;
 use crate::reading::{FromForm, held, needed};
 use bridge_ast::{Env, EnvFault, EnvFaultKind, EnvPlace, NoMemory, Text};
 use bridge_form::{Fields, InputKind, Key, Pointer, ReadFault};
+use bridge_pointers::place_pointer;
 use hir_backends::BasicAttributeValidator;
 use hir_config::LoweringConfig;
 use hir_docs::DocsUrlGenerator;

@@ -4,16 +4,16 @@ ghost use Rattle.serde_json.specs.View.{view};
 ghost use Rattle.bridge_form.specs.Form.{object_with, one_word};
 ghost use Rattle.bridge_form.specs.Given.{Gives};
 ghost use Rattle.bridge_read.specs.inside.Taking.{needed};
-ghost use Rattle.bridge_read.specs.Words.{item_kind_words};
+ghost use Rattle.bridge_words.specs.Words.{item_kind_words};
 ghost use Rattle.bridge_read.specs.forms.Items.{struct_parts, opaque_parts, enum_parts, trait_parts, function_parts};
 
 use crate::docs::documented;
 use crate::lifetimes::mutability;
 use crate::methods::{or_name, signed};
 use crate::reading::{FromForm, flag, listed, needed, optional};
-use crate::words::{ItemKind, one_word};
 use bridge_ast::{Enum, Field, Function, Item, LifetimeEnv, OpaqueType, Struct, Trait, Variant};
 use bridge_form::{Fields, Key, ReadFault, in_member, object, under};
+use bridge_words::{ItemKind, one_word};
 use serde_json::Value;
 use std::alloc::Global;
 

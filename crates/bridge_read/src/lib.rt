@@ -16,9 +16,9 @@
 //! these are read in the order in which docs/INPUT.md lists them. Where the whole value has the form, the modules are tested as an
 //! environment, and a second item `Locale` of `ffi` is a `duplicate item` at `/root/modules/0/items/1`.
 //!
-//! `bridge_form` takes objects apart, whatever they spell. Here `reading` has the trait by which parts are read, and `words` the tables of
-//! words; `lifetimes`, `types`, `attrs`, `docs`, `methods`, `items`, `modules` and `settings` read a subject each, and `places` finds the
-//! pointer of a declaration.
+//! `bridge_form` takes objects apart, whatever they spell, `bridge_words` has the tables of words, and `bridge_pointers` finds the pointer of a
+//! declaration. Here `reading` has the trait by which parts are read; `words`, `lifetimes`, `types`, `attrs`, `docs`, `methods`, `items`, `modules`
+//! and `settings` read a subject each.
 #![tactic(auto)]
 
 mod attrs;
@@ -28,7 +28,6 @@ mod items;
 mod lifetimes;
 mod methods;
 mod modules;
-mod places;
 mod reading;
 mod settings;
 mod types;

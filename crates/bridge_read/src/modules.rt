@@ -12,9 +12,9 @@ ghost use Rattle.bridge_form.specs.Left.{IsLeft};
 ghost use Rattle.bridge_read.specs.inside.Names.{NamesModule};
 
 use crate::attrs::no_attrs;
-use crate::reading::{FromForm, entries, held, listed, needed};
+use crate::reading::{FromForm, held, listed, needed};
 use bridge_ast::{Alias, Attrs, Item, Items, Module, NoMemory, Text};
-use bridge_form::{Field, Fields, Key, ReadFault, in_entry, in_member};
+use bridge_form::{Fields, Key, ReadFault, entries, in_entry, in_member};
 use serde_json::Value;
 use std::alloc::{AllocError, Global};
 use std::marker::Model;
@@ -209,13 +209,12 @@ fn nested_modules(
     ensures { (key : Name) (keys : List Name) (d : Data) → IsLeft left.old (key ∷ keys) d
         → Gives result (held [] (nested_in levels path.now).read key d) }
 {
-    let Field { key, value } = left.next();
-    match value {
-        Some(value) => {
+    match left.next() {
+        Some((key, Some(value))) => {
             let modules = inner_modules(alloc, room, value, path, levels);
             in_member(alloc, key, modules)
         }
-        None => Ok(ModuleList::new(alloc)),
+        _ => Ok(ModuleList::new(alloc)),
     }
 }
 

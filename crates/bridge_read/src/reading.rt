@@ -11,7 +11,7 @@ ghost use Rattle.bridge_form.specs.Left.{IsLeft};
 ghost use Rattle.bridge_form.specs.Reading.{entries_of, flag_of, list_of, text_of};
 
 use bridge_ast::{Items, NoMemory, Text};
-use bridge_form::{Field, Fields, ReadFault, in_entry, in_member};
+use bridge_form::{Fields, ReadFault, entries, in_entry, in_member, owned_text};
 use serde_json::Value;
 use std::alloc::Global;
 
@@ -27,43 +27,6 @@ pub trait FromForm: Drop {
     /// What the value is read as, or its first fault.
     fn from_form(alloc: Global, value: Value) -> Result<Self, ReadFault>
         ensures { Gives result (form (view value)) };
-}
-
-/// The text that a value is, lent.
-#[tactic(auto, unfolding(bridge_form::specs::Reading::text_of))]
-pub fn text(alloc: Global, value: &Value) -> Result<&str, ReadFault>
-    ensures { GivesBy (λ s. s.now) result (text_of (view value.now)) }
-{
-    match value.as_str() {
-        Some(text) => Ok(text),
-        None => Err(ReadFault::wrong_form(alloc)),
-    }
-}
-
-/// The text that a value is.
-#[tactic(auto, unfolding(bridge_form::specs::Reading::text_of))]
-fn owned_text(alloc: Global, value: Value) -> Result<String, ReadFault>
-    ensures { GivesBy string_bytes result (text_of (view value)) }
-{
-    match value {
-        Value::String(text) => Ok(text),
-        Value::Null | Value::Bool(_) | Value::Number(_) | Value::Array(_) | Value::Object(_) => {
-            Err(ReadFault::wrong_form(alloc))
-        }
-    }
-}
-
-/// The entries of a list.
-#[tactic(auto, unfolding(bridge_form::specs::Reading::entries_of))]
-pub fn entries(alloc: Global, value: Value) -> Result<Vec<Value>, ReadFault>
-    ensures { GivesBy (λ vs. items_view vs.items) result (entries_of (view value)) }
-{
-    match value {
-        Value::Array(entries) => Ok(entries),
-        Value::Null | Value::Bool(_) | Value::Number(_) | Value::String(_) | Value::Object(_) => {
-            Err(ReadFault::wrong_form(alloc))
-        }
-    }
 }
 
 /// The empty list, with room for so many entries.
@@ -191,10 +154,9 @@ pub fn needed<T: FromForm>(alloc: Global, left: &mut Fields) -> Result<T, ReadFa
     ensures { (key : Name) (keys : List Name) (d : Data) → IsLeft left.old (key ∷ keys) d
         → Takes result (needed T.form key d) left.new keys d }
 {
-    let Field { key, value } = left.next();
-    match value {
-        Some(value) => in_member(alloc, key, T::from_form(alloc, value)),
-        None => Err(ReadFault::missing_key(alloc)),
+    match left.next() {
+        Some((key, Some(value))) => in_member(alloc, key, T::from_form(alloc, value)),
+        _ => Err(ReadFault::missing_key(alloc)),
     }
 }
 
@@ -203,10 +165,9 @@ pub fn optional<T: FromForm>(alloc: Global, left: &mut Fields) -> Result<Option<
     ensures { (key : Name) (keys : List Name) (d : Data) → IsLeft left.old (key ∷ keys) d
         → Takes result (optional T.form key d) left.new keys d }
 {
-    let Field { key, value } = left.next();
-    match value {
-        Some(value) => Ok(Some(in_member(alloc, key, T::from_form(alloc, value))?)),
-        None => Ok(None),
+    match left.next() {
+        Some((key, Some(value))) => Ok(Some(in_member(alloc, key, T::from_form(alloc, value))?)),
+        _ => Ok(None),
     }
 }
 
@@ -215,10 +176,9 @@ pub fn held<T: FromForm>(alloc: Global, left: &mut Fields, absent: T) -> Result<
     ensures { (key : Name) (keys : List Name) (d : Data) → IsLeft left.old (key ∷ keys) d
         → Takes result (held absent T.form key d) left.new keys d }
 {
-    let Field { key, value } = left.next();
-    match value {
-        Some(value) => in_member(alloc, key, T::from_form(alloc, value)),
-        None => Ok(absent),
+    match left.next() {
+        Some((key, Some(value))) => in_member(alloc, key, T::from_form(alloc, value)),
+        _ => Ok(absent),
     }
 }
 
@@ -235,10 +195,9 @@ pub fn needed_some<T: FromForm>(alloc: Global, left: &mut Fields) -> Result<Item
     ensures { (key : Name) (keys : List Name) (d : Data) → IsLeft left.old (key ∷ keys) d
         → Takes result (needed (some_of (list_of T.form)) key d) left.new keys d }
 {
-    let Field { key, value } = left.next();
-    match value {
-        Some(value) => in_member(alloc, key, some_list_of(alloc, value)),
-        None => Err(ReadFault::missing_key(alloc)),
+    match left.next() {
+        Some((key, Some(value))) => in_member(alloc, key, some_list_of(alloc, value)),
+        _ => Err(ReadFault::missing_key(alloc)),
     }
 }
 

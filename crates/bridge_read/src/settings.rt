@@ -9,9 +9,9 @@ ghost use Rattle.bridge_read.specs.forms.Settings.{backend_names, flag_words, tu
 ghost use Rattle.bridge_form.specs.Left.{IsLeft};
 ghost use Rattle.bridge_read.specs.inside.Taking.{Takes};
 
-use crate::reading::{FromForm, flag, held, listed, needed, optional, text};
+use crate::reading::{FromForm, flag, held, listed, needed, optional};
 use bridge_ast::{Items, NoMemory, Text};
-use bridge_form::{Fields, Key, ReadFault, in_member_named, members};
+use bridge_form::{Fields, Key, ReadFault, in_member_named, members, text};
 use hir_backends::{BackendAttrSupport, BasicAttributeValidator, Names, Pairs, SupportFlag};
 use hir_config::LoweringConfig;
 use hir_docs::DocsUrlGenerator;

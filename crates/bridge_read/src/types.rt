@@ -12,13 +12,15 @@ ghost use Rattle.bridge_form.specs.Left.{IsLeft};
 ghost use Rattle.bridge_read.specs.forms.Types.{borrow_of, spelling, type_called, type_word, type_keys, type_under, type_within, written_primitive, writer_called, reference_type, result_type, custom_slice, callback, str_slice, str_list, primitive_slice, written_borrow};
 
 use crate::lifetimes::mutability;
-use crate::reading::{FromForm, entries, flag, needed, optional, room_for, text};
-use crate::words::find_word;
+use crate::reading::{FromForm, flag, needed, optional, room_for};
 use bridge_ast::{
     Boxed, Items, Lifetime, Mutability, PathType, PrimitiveType, StdlibOrDiplomat, TypeName,
     WriteType,
 };
-use bridge_form::{Choice, Fault, Field, Fields, InputKind, Key, ReadFault, in_entry, in_member};
+use bridge_form::{
+    Fault, Fields, InputKind, Key, ReadFault, entries, in_entry, in_member, sole, text,
+};
+use bridge_words::find_word;
 use serde_json::Value;
 use std::alloc::Global;
 
@@ -173,10 +175,9 @@ fn needed_type(
     ensures { (key : Name) (keys : List Name) (d : Data) → IsLeft left.old (key ∷ keys) d
         → Takes result (needed (type_within levels).read key d) left.new keys d }
 {
-    let Field { key, value } = left.next();
-    match value {
-        Some(value) => in_member(alloc, key, boxed(alloc, value, levels)),
-        None => Err(ReadFault::missing_key(alloc)),
+    match left.next() {
+        Some((key, Some(value))) => in_member(alloc, key, boxed(alloc, value, levels)),
+        _ => Err(ReadFault::missing_key(alloc)),
     }
 }
 
@@ -251,10 +252,9 @@ fn types_under(
     ensures { (key : Name) (keys : List Name) (d : Data) → IsLeft left.old (key ∷ keys) d
         → Takes result (held [] (list_of (type_within levels).read) key d) left.new keys d }
 {
-    let Field { key, value } = left.next();
-    match value {
-        Some(value) => in_member(alloc, key, type_list(alloc, value, levels)),
-        None => Ok(Items::new(alloc)),
+    match left.next() {
+        Some((key, Some(value))) => in_member(alloc, key, type_list(alloc, value, levels)),
+        _ => Ok(Items::new(alloc)),
     }
 }
 
@@ -268,10 +268,9 @@ fn type_or_unit(
     ensures { (key : Name) (keys : List Name) (d : Data) → IsLeft left.old (key ∷ keys) d
         → Takes result (held TypeName.Unit (type_within levels).read key d) left.new keys d }
 {
-    let Field { key, value } = left.next();
-    match value {
-        Some(value) => in_member(alloc, key, boxed(alloc, value, levels)),
-        None => Ok(Boxed::new(alloc, TypeName::Unit)?),
+    match left.next() {
+        Some((key, Some(value))) => in_member(alloc, key, boxed(alloc, value, levels)),
+        _ => Ok(Boxed::new(alloc, TypeName::Unit)?),
     }
 }
 
@@ -331,7 +330,7 @@ fn type_within(alloc: Global, value: Value, levels: usize) -> Result<TypeName, R
     if let Some(_) = value.as_str() {
         return type_word(alloc, &value);
     }
-    let (key, found) = Choice::of(alloc, value, type_keys())?.sole(alloc)?;
+    let (key, found) = sole(alloc, value, type_keys())?;
     in_member(alloc, key, type_under(alloc, key, found, inner))
 }
 

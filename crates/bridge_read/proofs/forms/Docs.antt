@@ -7,7 +7,7 @@ use Rattle.bridge_decl.specs.declared.docs.RustLink.{RustLink}
 use Rattle.bridge_decl.specs.declared.docs.RustLinkDisplay.{RustLinkDisplay}
 use Rattle.bridge_decl.specs.declared.attrs.Attrs.{Attrs}
 use Rattle.bridge_form.specs.declared.keys.Key.TheVariants as key
-use Rattle.bridge_read.specs.Words.{doc_words, display_words}
+use Rattle.bridge_words.specs.Words.{doc_words, display_words}
 use Rattle.bridge_read.specs.forms.Docs.{block_of, block, doc_kind, display, link_of, link, docs_of, docs, no_docs, about_of, documented}
 use Rattle.bridge_form.proofs.FormLaws.{Lawful, LawfulParts}
 use Rattle.bridge_form.proofs.Proved.{Proved, ProvedParts, List_of, Object, Made, Needs, May_be, ◌&&&◌, Text, One_word}

@@ -4,9 +4,9 @@ use Rattle.bridge_decl.specs.declared.enums.Variant.{Variant}
 use Rattle.bridge_decl.specs.declared.modules.Item.{Item}
 use Rattle.bridge_decl.specs.declared.structs.Field.{Field}
 use Rattle.bridge_form.specs.declared.keys.Key.TheVariants as key
-use Rattle.bridge_read.specs.declared.words.ItemKind.{ItemKind}
-use Rattle.bridge_read.specs.declared.words.ItemKind.TheVariants as kind
-use Rattle.bridge_read.specs.Words.{item_kind_words}
+use Rattle.bridge_words.specs.declared.words.ItemKind.{ItemKind}
+use Rattle.bridge_words.specs.declared.words.ItemKind.TheVariants as kind
+use Rattle.bridge_words.specs.Words.{item_kind_words}
 use Rattle.bridge_read.specs.forms.Items.{field_of, field, variant_of, variant, struct_of, struct_parts, opaque_of, opaque_parts, enum_of, enum_parts, trait_of, trait_parts, function_of, function_parts, parts_of, item_form}
 use Rattle.bridge_form.proofs.FormLaws.{Lawful, LawfulParts}
 use Rattle.bridge_form.proofs.Proved.{Proved, ProvedParts, List_of, Object, Made, Needs, May_have, May_be, Skips, Grouped, ◌&&&◌, Text, Flag, Integer, One_word}

@@ -10,7 +10,7 @@ use Rattle.bridge_decl.specs.declared.types.TypeName.{TypeName}
 use Rattle.bridge_decl.specs.declared.types.TypeName.TheVariants as type
 use Rattle.bridge_form.specs.declared.keys.Key.{Key}
 use Rattle.bridge_form.specs.declared.keys.Key.TheVariants as key
-use Rattle.bridge_read.specs.Words.{primitive_words, encoding_words}
+use Rattle.bridge_words.specs.Words.{primitive_words, encoding_words}
 use Rattle.bridge_read.specs.forms.Types.{type_called, type_word, writer_called, writer, primitive_name, encoding, str_slice_of, str_slice, str_list_of, str_list, borrow_of, both_of, written_borrow, borrow, primitive_slice_of, primitive_slice, reference_type_of, result_of, custom_slice_of, callback_of, option_type_of, type_keys, type_within, type_name, type_under}
 use Rattle.bridge_form.proofs.FormLaws.{Lawful, LawfulParts}
 use Rattle.bridge_form.proofs.Proved.{Proved, ProvedParts, List_of, Object, Made, Needs, May_have, May_be, Never, ◌&&&◌, Refined, Refined_at, Text, Flag, Mapped, One_word}

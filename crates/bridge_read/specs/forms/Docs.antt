@@ -9,7 +9,7 @@ use Rattle.bridge_decl.specs.declared.attrs.Attrs.{Attrs}
 use Rattle.bridge_decl.specs.declared.attrs.DiplomatBackendAttrCfg.{DiplomatBackendAttrCfg}
 use Rattle.bridge_form.specs.declared.keys.Key.TheVariants as key
 use Rattle.bridge_form.specs.Form.{Form, Parts, object_with, made, ◌&◌, needs, may_be, list, text, one_word}
-use Rattle.bridge_read.specs.Words.{doc_words, display_words}
+use Rattle.bridge_words.specs.Words.{doc_words, display_words}
 use Rattle.bridge_read.specs.forms.Attrs.{condition, attrs, no_attrs}
 
 abbrev pub block_of : DiplomatBackendAttrCfg → List ℕ → DocBlock

@@ -12,10 +12,10 @@ use Rattle.bridge_decl.specs.declared.traits.TraitMethod.{TraitMethod}
 use Rattle.bridge_decl.specs.declared.types.TypeName.{TypeName}
 use Rattle.bridge_read.specs.declared.methods.Signature.{Signature}
 use Rattle.bridge_form.specs.declared.keys.Key.TheVariants as key
-use Rattle.bridge_read.specs.declared.words.ItemKind.{ItemKind}
-use Rattle.bridge_read.specs.declared.words.ItemKind.TheVariants as kind
+use Rattle.bridge_words.specs.declared.words.ItemKind.{ItemKind}
+use Rattle.bridge_words.specs.declared.words.ItemKind.TheVariants as kind
 use Rattle.bridge_form.specs.Form.{Form, Parts, object_with, made, ◌&◌, needs, may_be, may_have, skips, grouped, chosen_by, list, text, flag, integer, one_word}
-use Rattle.bridge_read.specs.Words.{item_kind_words}
+use Rattle.bridge_words.specs.Words.{item_kind_words}
 use Rattle.bridge_read.specs.forms.Docs.{documented}
 use Rattle.bridge_read.specs.forms.Lifetimes.{node, mutability}
 use Rattle.bridge_read.specs.forms.Methods.{method, trait_method, signature, or_else}

@@ -15,7 +15,7 @@ use Rattle.bridge_decl.specs.declared.types.TypeName.TheVariants as type
 use Rattle.bridge_form.specs.declared.keys.Key.{Key}
 use Rattle.bridge_form.specs.declared.keys.Key.TheVariants as key
 use Rattle.bridge_form.specs.Form.{Form, Parts, object_with, made, ◌&◌, needs, may_be, may_have, refined_at, refined, mapped, word_or, one_of, never, list, text, flag, find_word, one_word}
-use Rattle.bridge_read.specs.Words.{primitive_words, encoding_words}
+use Rattle.bridge_words.specs.Words.{primitive_words, encoding_words}
 use Rattle.bridge_read.specs.forms.Lifetimes.{lifetime, path, mutability}
 
 -- whose spelling was used

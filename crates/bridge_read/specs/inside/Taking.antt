@@ -5,8 +5,8 @@ use Rattle.bridge_form.specs.declared.fault.Fault.{Fault}
 use Rattle.bridge_form.specs.declared.fault.ReadFault.{ReadFault}
 use Rattle.bridge_form.specs.declared.keys.Key.{Key}
 use Rattle.bridge_form.specs.Reading.{held_of, needed_of, not_empty, optional_of, refined_of, under}
-use Rattle.bridge_form.specs.declared.fields.Fields.{Fields}
 use Rattle.bridge_form.specs.Given.{Stops}
+use Rattle.bridge_form.specs.declared.fields.Fields.{Fields}
 use Rattle.bridge_form.specs.Left.{IsLeft}
 
 -- what is read under a key that is required

@@ -1,7 +1,7 @@
 use Rattle.std.proofs.Common.{sym}
 use Rattle.hir_backends.specs.Support.{flag_text}
 use Rattle.hir_backends.specs.declared.support.flag.SupportFlag.TheVariants.{Namespacing}
-use Rattle.bridge_read.proofs.WordLemmas.{found_at, none_after}
+use Rattle.bridge_words.proofs.WordLemmas.{found_at, none_after}
 use Rattle.bridge_read.proofs.settings.flag_called.Goals as goal
 
 pub returns-then-eq : goal.returns-then-eq
