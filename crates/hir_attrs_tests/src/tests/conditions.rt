@@ -153,13 +153,21 @@ fn nested(alloc: Global, list: &str, times: usize, inner: &str) -> Result<String
     Ok(text)
 }
 
+/// Whether the row's condition comes to what it says.
+fn nests(
+    alloc: Global,
+    backend: &BasicAttributeValidator,
+    (list, times, inner, text): &(&str, usize, &str, &str),
+) -> Result<bool, NoMemory> {
+    let condition = nested(alloc, list, *times, inner)?;
+    Ok(renamed(alloc, backend, condition.as_str())?.as_str() == *text)
+}
+
 #[test]
 fn conditions_nest(rt: HostRuntime) -> Result<(), NoMemory> {
     let backend = knowing(rt.alloc())?;
-    for (list, times, inner, text) in &NESTED {
-        let condition = nested(rt.alloc(), list, *times, inner)?;
-        let found = renamed(rt.alloc(), &backend, condition.as_str())?;
-        assert!(rt; found.as_str() == *text);
+    for row in &NESTED {
+        assert!(rt; nests(rt.alloc(), &backend, row)?);
     }
     Ok(())
 }

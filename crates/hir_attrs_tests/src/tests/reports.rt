@@ -152,15 +152,23 @@ fn reports_of(
     printed(alloc, &mut errors)
 }
 
+/// Whether the row's marks have its reports.
+fn are_reported(
+    alloc: Global,
+    backend: &BasicAttributeValidator,
+    (outer, item, method, marks, text): &(&str, &str, &str, &str, &str),
+) -> Result<bool, NoMemory> {
+    let parent = taken_over(alloc, backend, outer, method)?;
+    Ok(reports_of(alloc, backend, parent, item, method, marks)?.as_str() == *text)
+}
+
 /// The backend supports defaults of parameters alone.
 #[test]
 fn rules_are_told_where_they_are_broken(rt: HostRuntime) -> Result<(), NoMemory> {
     let mut backend = backend(rt.alloc(), false)?;
     backend.support = BackendAttrSupport::none().with(SupportFlag::DefaultArgs);
-    for (outer, item, method, marks, text) in &ROWS {
-        let parent = taken_over(rt.alloc(), &backend, outer, method)?;
-        let found = reports_of(rt.alloc(), &backend, parent, item, method, marks)?;
-        assert!(rt; found.as_str() == *text);
+    for row in &ROWS {
+        assert!(rt; are_reported(rt.alloc(), &backend, row)?);
     }
     Ok(())
 }

@@ -7,9 +7,17 @@ use hir_attrs::{BackendAttrSupport, BasicAttributeValidator, SupportFlag};
 use std::alloc::Global;
 use std::process::Abort;
 
+type Flagged = (
+    &'static str,
+    SupportFlag,
+    &'static str,
+    &'static str,
+    &'static str,
+);
+
 /// A mark, the flag that it needs, and what it comes to without that flag alone, with that flag alone, and with that flag under `auto`.
 /// Without the flag nothing is told under `auto`, and nothing set.
-const FLAGGED: [(&str, SupportFlag, &str, &str, &str); 13] = [
+const FLAGGED: [Flagged; 13] = [
     (
         "default",
         SupportFlag::Defaults,
@@ -158,34 +166,50 @@ fn under_all(
     row(alloc, cells.as_slice())
 }
 
+/// The backend `cpp` with that support.
+fn supporting(
+    alloc: Global,
+    support: BackendAttrSupport,
+) -> Result<BasicAttributeValidator, NoMemory> {
+    let mut backend = backend(alloc, false)?;
+    backend.support = support;
+    Ok(backend)
+}
+
+/// Whether the mark comes to what the row says without its flag alone.
+fn is_denied(
+    alloc: Global,
+    (mark, flag, denied, _taken, _by_auto): &Flagged,
+) -> Result<bool, NoMemory> {
+    let backend = supporting(alloc, all_but(*flag))?;
+    let found = under_all(alloc, &backend, mark)?;
+    Ok(found.as_str().strip_suffix("*4 / -*4") == Some(*denied))
+}
+
 #[test]
 fn a_mark_needs_its_flag(rt: HostRuntime) -> Result<(), NoMemory> {
-    let mut backend = backend(rt.alloc(), false)?;
-    for (mark, flag, denied, _taken, _by_auto) in &FLAGGED {
-        backend.support = all_but(*flag);
-        let found = under_all(rt.alloc(), &backend, mark)?;
-        let wanted = joined(rt.alloc(), "", denied, "*4 / -*4")?;
-        assert!(rt; found.as_str() == wanted.as_str());
+    for row in &FLAGGED {
+        assert!(rt; is_denied(rt.alloc(), row)?);
     }
     Ok(())
 }
 
-/// What a mark comes to under `*` and under `auto`.
-fn both(alloc: Global, backend: &BasicAttributeValidator, mark: &str) -> Result<String, NoMemory> {
-    let mut text = under(alloc, backend, "*", mark)?;
-    text.push_str(" / ")?;
-    text.push_str(under(alloc, backend, "auto", mark)?.as_str())?;
-    Ok(text)
+/// Whether the mark comes to what the row says with its flag alone, under `*` and under `auto`.
+fn is_taken(
+    alloc: Global,
+    (mark, flag, _denied, taken, by_auto): &Flagged,
+) -> Result<bool, NoMemory> {
+    let backend = supporting(alloc, BackendAttrSupport::none().with(*flag))?;
+    Ok(
+        under(alloc, &backend, "*", mark)?.as_str() == *taken
+            && under(alloc, &backend, "auto", mark)?.as_str() == *by_auto,
+    )
 }
 
 #[test]
 fn a_mark_needs_no_other_flag(rt: HostRuntime) -> Result<(), NoMemory> {
-    let mut backend = backend(rt.alloc(), false)?;
-    for (mark, flag, _denied, taken, by_auto) in &FLAGGED {
-        backend.support = BackendAttrSupport::none().with(*flag);
-        let found = both(rt.alloc(), &backend, mark)?;
-        let wanted = joined(rt.alloc(), taken, " / ", by_auto)?;
-        assert!(rt; found.as_str() == wanted.as_str());
+    for row in &FLAGGED {
+        assert!(rt; is_taken(rt.alloc(), row)?);
     }
     Ok(())
 }
@@ -276,39 +300,49 @@ const KEYS: [&str; 35] = [
     "utf16_writeables",
 ];
 
-/// Tests that each key under a condition breaks the rule of this beginning and this end.
+/// Whether the key under `*` breaks the rule of this beginning and this end.
+fn breaks(
+    alloc: Global,
+    backend: &BasicAttributeValidator,
+    key: &str,
+    (beginning, end): (&str, &str),
+) -> Result<bool, NoMemory> {
+    let found = under(alloc, backend, "*", key)?;
+    match found.as_str().strip_prefix(beginning) {
+        Some(rest) => Ok(rest.strip_suffix(end) == Some(key)),
+        None => Ok(false),
+    }
+}
+
+/// Tests that each key breaks that rule.
 fn compare_keys(
     rt: &impl Abort,
     alloc: Global,
     is_able: bool,
-    condition: &str,
     ends: (&str, &str),
 ) -> Result<(), NoMemory> {
     let backend = backend(alloc, is_able)?;
     for key in &KEYS {
-        let found = under(alloc, &backend, condition, key)?;
-        let wanted = joined(alloc, ends.0, key, ends.1)?;
-        assert!(rt; found.as_str() == wanted.as_str());
+        assert!(rt; breaks(alloc, &backend, key, ends)?);
     }
     Ok(())
 }
 
 #[test]
 fn names_of_flags_are_no_marks(rt: HostRuntime) -> Result<(), NoMemory> {
-    compare_keys(&rt, rt.alloc(), true, "*", ("!UnknownMark(", ")"))
+    compare_keys(&rt, rt.alloc(), true, ("!UnknownMark(", ")"))
 }
 
 #[test]
 fn names_of_flags_are_denied(rt: HostRuntime) -> Result<(), NoMemory> {
-    compare_keys(&rt, rt.alloc(), false, "*", ("!MarkUnsupported(", " cpp)"))
+    compare_keys(&rt, rt.alloc(), false, ("!MarkUnsupported(", " cpp)"))
 }
 
 #[test]
 fn denied_names_are_spared_under_auto(rt: HostRuntime) -> Result<(), NoMemory> {
     let backend = backend(rt.alloc(), false)?;
     for key in &KEYS {
-        let found = under(rt.alloc(), &backend, "auto", key)?;
-        assert!(rt; found.as_str() == "-");
+        assert!(rt; under(rt.alloc(), &backend, "auto", key)?.as_str() == "-");
     }
     Ok(())
 }

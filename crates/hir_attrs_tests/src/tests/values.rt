@@ -64,12 +64,16 @@ fn long(alloc: Global, digit: &str) -> Result<String, NoMemory> {
     Ok(text)
 }
 
+/// What a default value of so many of that digit comes to.
+fn of_million(alloc: Global, digit: &str) -> Result<String, NoMemory> {
+    let backend = backend(alloc, true)?;
+    let marks = long(alloc, digit)?;
+    read(alloc, &backend, marks.as_str())
+}
+
 #[test]
 fn a_million_digits_are_read(rt: HostRuntime) -> Result<(), NoMemory> {
-    let backend = backend(rt.alloc(), true)?;
-    for (digit, text) in &[("0", "Integer(7)"), ("1", "!BadDefaultValue")] {
-        let marks = long(rt.alloc(), digit)?;
-        assert!(rt; read(rt.alloc(), &backend, marks.as_str())?.as_str() == *text);
-    }
+    assert!(rt; of_million(rt.alloc(), "0")?.as_str() == "Integer(7)");
+    assert!(rt; of_million(rt.alloc(), "1")?.as_str() == "!BadDefaultValue");
     Ok(())
 }

@@ -107,32 +107,59 @@ const ROWS: [(&str, &[&str], &str, &str); 24] = [
     ),
 ];
 
+// Whether the row's condition comes to its answers.
+fn holds(
+    alloc: Global,
+    backend: &BasicAttributeValidator,
+    (form, parts, allowed, elsewhere): &(&str, &[&str], &str, &str),
+) -> Result<bool, NoMemory> {
+    let cfg = around(alloc, form, list(alloc, parts)?)?;
+    Ok(comes_to(backend, &cfg, true) == *allowed && comes_to(backend, &cfg, false) == *elsewhere)
+}
+
 #[test]
 fn each_form_comes_to_its_answer(rt: HostRuntime) -> Result<(), NoMemory> {
     let backend = BasicAttributeValidator::new(rt.alloc(), "cpp")?;
-    for (form, parts, allowed, elsewhere) in &ROWS {
-        let cfg = around(rt.alloc(), form, list(rt.alloc(), parts)?)?;
-        assert!(rt; comes_to(&backend, &cfg, true) == *allowed);
-        assert!(rt; comes_to(&backend, &cfg, false) == *elsewhere);
+    for row in &ROWS {
+        assert!(rt; holds(rt.alloc(), &backend, row)?);
     }
     Ok(())
+}
+
+// What stands in a form that nests: the condition, in `any` behind one that isn't met.
+fn parts_of(
+    alloc: Global,
+    form: &str,
+    cfg: DiplomatBackendAttrCfg,
+) -> Result<Items<DiplomatBackendAttrCfg>, NoMemory> {
+    let unmet = if form == "any" { 1usize } else { 0 };
+    let mut parts = list(alloc, &["js"][..unmet])?;
+    parts.push(cfg)?;
+    Ok(parts)
 }
 
 // The forms around a plain condition, the innermost first.
 fn nested(alloc: Global, forms: &[&str], inner: &str) -> Result<DiplomatBackendAttrCfg, NoMemory> {
     let mut cfg = plain(alloc, inner)?;
     for form in forms {
-        let mut parts = list(alloc, &["js"])?;
-        if *form != "any" {
-            parts = Items::new(alloc);
-        }
-        parts.push(cfg)?;
-        cfg = around(alloc, form, parts)?;
+        cfg = around(alloc, form, parts_of(alloc, form, cfg)?)?;
     }
     Ok(cfg)
 }
 
-const NESTED: [(&[&str], &str, &str); 7] = [
+// What such a condition comes to where `auto` is allowed.
+fn nested_answer(
+    alloc: Global,
+    backend: &BasicAttributeValidator,
+    forms: &[&str],
+    inner: &str,
+) -> Result<&'static str, NoMemory> {
+    let cfg = nested(alloc, forms, inner)?;
+    Ok(comes_to(backend, &cfg, true))
+}
+
+// The last two are as deep as an input can nest them.
+const NESTED: [(&[&str], &str, &str); 9] = [
     (&["all", "any"], "auto", "AutoMisplaced"),
     (&["any", "any"], "auto", "true+"),
     (&["any", "not"], "auto", "AutoMisplaced"),
@@ -140,19 +167,15 @@ const NESTED: [(&[&str], &str, &str); 7] = [
     (&["not", "not"], "cpp", "true"),
     (&["not", "all", "any", "not"], "js", "false"),
     (&["not", "all", "any", "not"], "cpp", "true"),
+    (&["any"; 126], "auto", "true+"),
+    (&["not"; 125], "cpp", "false"),
 ];
 
 #[test]
 fn conditions_nest(rt: HostRuntime) -> Result<(), NoMemory> {
     let backend = BasicAttributeValidator::new(rt.alloc(), "cpp")?;
     for (forms, inner, answer) in &NESTED {
-        let cfg = nested(rt.alloc(), forms, inner)?;
-        assert!(rt; comes_to(&backend, &cfg, true) == *answer);
+        assert!(rt; nested_answer(rt.alloc(), &backend, forms, inner)? == *answer);
     }
-    // as deep as an input can nest them
-    let cfg = nested(rt.alloc(), &["any"; 126], "auto")?;
-    assert!(rt; comes_to(&backend, &cfg, true) == "true+");
-    let cfg = nested(rt.alloc(), &["not"; 125], "cpp")?;
-    assert!(rt; comes_to(&backend, &cfg, true) == "false");
     Ok(())
 }

@@ -1,7 +1,7 @@
 use bridge_decl::{Boxed, DiplomatBackendAttrCfg, DocBlock, Items, NoMemory, Text};
 use hir_backends::BasicAttributeValidator;
 use hir_docs::Docs;
-use hir_reports::{ErrorStore, Rule};
+use hir_reports::{ErrorStore, LoweringReport, Rule};
 use std::alloc::Global;
 
 // `*`, `auto`, `!auto`, a pair written `name=value`, or the name of a backend.
@@ -58,28 +58,50 @@ const ROWS: [(&[(&str, &str)], &str, &str); 8] = [
     (&[("supports=traits", "a"), ("feature=x", "b")], "", ""),
 ];
 
-fn are_told(alloc: Global, errors: &mut ErrorStore<'_>, told: &str) -> Result<bool, NoMemory> {
-    let mut letters = String::new(alloc);
-    for report in errors.take_errors() {
-        letters.push_str(match report.rule() {
-            Rule::AutoMisplaced => "a",
-            Rule::UnknownPair => "p",
-            _ => "?",
-        })?;
+fn letter(rule: Rule) -> u8 {
+    match rule {
+        Rule::AutoMisplaced => b'a',
+        Rule::UnknownPair => b'p',
+        _ => b'?',
     }
-    Ok(letters.as_str() == told)
+}
+
+fn are_told(reports: &[LoweringReport], told: &str) -> bool {
+    for (report, expected) in reports.iter().zip(told.as_bytes()) {
+        if letter(report.rule()) != *expected {
+            return false;
+        }
+    }
+    reports.len() == told.len()
+}
+
+// The documentation of the blocks, with what is told of their conditions.
+fn joined(
+    alloc: Global,
+    backend: &BasicAttributeValidator,
+    blocks: &[(&str, &str)],
+) -> Result<(Docs, Vec<LoweringReport>), NoMemory> {
+    let mut errors = ErrorStore::new(alloc);
+    let declared = declared(alloc, blocks)?;
+    let docs = Docs::from_ast(alloc, &declared, backend, &mut errors)?;
+    Ok((docs, errors.take_errors()))
+}
+
+fn are_joined(
+    alloc: Global,
+    backend: &BasicAttributeValidator,
+    (blocks, lines, told): &(&[(&str, &str)], &str, &str),
+) -> Result<bool, NoMemory> {
+    let (docs, reports) = joined(alloc, backend, blocks)?;
+    let has_lines = docs.lines() == *lines && docs.is_empty() == lines.is_empty();
+    Ok(has_lines && are_told(reports.as_slice(), told))
 }
 
 #[test]
 fn blocks_are_joined(rt: HostRuntime) -> Result<(), NoMemory> {
     let backend = BasicAttributeValidator::new(rt.alloc(), "cpp")?;
-    let mut errors = ErrorStore::new(rt.alloc());
-    for (blocks, lines, told) in &ROWS {
-        let declared = declared(rt.alloc(), blocks)?;
-        let docs = Docs::from_ast(rt.alloc(), &declared, &backend, &mut errors)?;
-        assert!(rt; docs.lines() == *lines);
-        assert!(rt; docs.is_empty() == lines.is_empty());
-        assert!(rt; are_told(rt.alloc(), &mut errors, told)?);
+    for row in &ROWS {
+        assert!(rt; are_joined(rt.alloc(), &backend, row)?);
     }
     Ok(())
 }

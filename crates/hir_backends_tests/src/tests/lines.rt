@@ -48,29 +48,33 @@ fn opaque(alloc: Global) -> Result<Item, NoMemory> {
             (&["std"], DocType::EnumVariantField),
         ],
     )?;
+    let name = Text::new(alloc, "O")?;
+    let dtor_abi_name = Text::new(alloc, "O_destroy")?;
     Ok(Item::Opaque(OpaqueType {
-        name: Text::new(alloc, "O")?,
+        name,
         lifetimes: LifetimeEnv {
             nodes: Items::new(alloc),
         },
         mutability: Mutability::Immutable,
         methods: Items::new(alloc),
-        dtor_abi_name: Text::new(alloc, "O_destroy")?,
+        dtor_abi_name,
         docs,
         attrs: no_attrs(alloc),
     }))
 }
 
 fn method(alloc: Global, name: &str) -> Result<TraitMethod, NoMemory> {
+    let name = Text::new(alloc, name)?;
+    let docs = docs(alloc, &[(&["icu"], DocType::Mod)])?;
     Ok(TraitMethod {
-        name: Text::new(alloc, name)?,
+        name,
         lifetimes: LifetimeEnv {
             nodes: Items::new(alloc),
         },
         self_param: None,
         params: Items::new(alloc),
         output_type: None,
-        docs: docs(alloc, &[(&["icu"], DocType::Mod)])?,
+        docs,
         attrs: no_attrs(alloc),
     })
 }
@@ -79,15 +83,17 @@ fn method(alloc: Global, name: &str) -> Result<TraitMethod, NoMemory> {
 fn with_method(alloc: Global) -> Result<Item, NoMemory> {
     let mut methods = Items::new(alloc);
     methods.push(method(alloc, "go")?)?;
+    let name = Text::new(alloc, "T")?;
+    let docs = docs(alloc, &[])?;
     Ok(Item::Trait(Trait {
-        name: Text::new(alloc, "T")?,
+        name,
         lifetimes: LifetimeEnv {
             nodes: Items::new(alloc),
         },
         methods,
         is_send: false,
         is_sync: false,
-        docs: docs(alloc, &[])?,
+        docs,
         attrs: no_attrs(alloc),
     }))
 }
@@ -95,12 +101,31 @@ fn with_method(alloc: Global) -> Result<Item, NoMemory> {
 fn module(alloc: Global, path: &[&str], item: Item) -> Result<Module, NoMemory> {
     let mut items = Items::new(alloc);
     items.push(item)?;
+    let path = texts(alloc, path)?;
     Ok(Module {
-        path: texts(alloc, path)?,
+        path,
         attrs: no_attrs(alloc),
         items,
         aliases: Items::new(alloc),
     })
+}
+
+// The root with the opaque, and `m` with the trait.
+fn modules(alloc: Global) -> Result<Items<Module>, NoMemory> {
+    let mut modules = Items::new(alloc);
+    modules.push(module(alloc, &[], opaque(alloc)?)?)?;
+    modules.push(module(alloc, &["m"], with_method(alloc)?)?)?;
+    Ok(modules)
+}
+
+// What is told of the links in these modules.
+fn told(alloc: Global, modules: &[Module]) -> Result<Text, NoMemory> {
+    let urls = DocsUrlGenerator::new(alloc);
+    let mut lines = LinkLines::new(alloc);
+    for module in modules {
+        lines.push_module(alloc, &urls, module)?;
+    }
+    lines.into_text(alloc)
 }
 
 const LINES: &str =
@@ -108,19 +133,13 @@ const LINES: &str =
 
 #[test]
 fn links_are_told_in_order(rt: HostRuntime) -> Result<(), NoMemory> {
-    let urls = DocsUrlGenerator::new(rt.alloc());
-    let root = module(rt.alloc(), &[], opaque(rt.alloc())?)?;
-    let inner = module(rt.alloc(), &["m"], with_method(rt.alloc())?)?;
-    let mut lines = LinkLines::new(rt.alloc());
-    lines.push_module(rt.alloc(), &urls, &root)?;
-    lines.push_module(rt.alloc(), &urls, &inner)?;
-    assert!(rt; lines.into_text(rt.alloc())?.as_str() == LINES);
+    let modules = modules(rt.alloc())?;
+    assert!(rt; told(rt.alloc(), modules.as_slice())?.as_str() == LINES);
     Ok(())
 }
 
 #[test]
 fn without_links_there_is_a_last_line(rt: HostRuntime) -> Result<(), NoMemory> {
-    let lines = LinkLines::new(rt.alloc());
-    assert!(rt; lines.into_text(rt.alloc())?.as_str() == "links 0\n");
+    assert!(rt; told(rt.alloc(), &[])?.as_str() == "links 0\n");
     Ok(())
 }

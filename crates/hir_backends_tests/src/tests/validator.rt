@@ -52,9 +52,11 @@ fn supports_nothing(support: BackendAttrSupport) -> bool {
     true
 }
 
-// Whether the backend has no other name, and knows no pairs and no features.
-fn knows_nothing(backend: &BasicAttributeValidator) -> bool {
-    backend.other_backend_names.is_empty()
+// Whether the backend has the name and no other, supports nothing, and knows no pairs and no features.
+fn is_new(backend: &BasicAttributeValidator, name: &str) -> bool {
+    backend.backend_name.as_str() == name
+        && supports_nothing(backend.support)
+        && backend.other_backend_names.is_empty()
         && backend.name_values.is_empty()
         && backend.features_enabled.is_empty()
         && backend.semver_unstable_features.is_empty()
@@ -63,9 +65,7 @@ fn knows_nothing(backend: &BasicAttributeValidator) -> bool {
 #[test]
 fn a_new_backend_supports_nothing(rt: HostRuntime) -> Result<(), NoMemory> {
     let backend = BasicAttributeValidator::new(rt.alloc(), "kotlin")?;
-    assert!(rt; backend.backend_name.as_str() == "kotlin");
-    assert!(rt; supports_nothing(backend.support));
-    assert!(rt; knows_nothing(&backend));
+    assert!(rt; is_new(&backend, "kotlin"));
     Ok(())
 }
 
@@ -115,6 +115,15 @@ fn a_backend_is_copied(rt: HostRuntime) -> Result<(), NoMemory> {
     Ok(())
 }
 
+fn are_in_order(names: &Names, expected: &[&str]) -> bool {
+    for (name, text) in names.as_slice().iter().zip(expected) {
+        if name.as_str() != *text {
+            return false;
+        }
+    }
+    names.as_slice().len() == expected.len()
+}
+
 // Names out of order, one of them twice, and texts that are or aren't among them.
 #[test]
 fn names_are_found(rt: HostRuntime) -> Result<(), NoMemory> {
@@ -125,12 +134,7 @@ fn names_are_found(rt: HostRuntime) -> Result<(), NoMemory> {
     for name in &["d", "cp", "cppp", "zig", "Js", "a"] {
         assert!(rt; !names.has(name));
     }
-    let mut order = String::new(rt.alloc());
-    for name in names.as_slice() {
-        order.push_str(name.as_str())?;
-        order.push_str(" ")?;
-    }
-    assert!(rt; order.as_str() == "js cpp kotlin c cpp  dart ");
+    assert!(rt; are_in_order(&names, &["js", "cpp", "kotlin", "c", "cpp", "", "dart"]));
     Ok(())
 }
 
