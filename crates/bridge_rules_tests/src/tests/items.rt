@@ -58,13 +58,27 @@ fn receiver(
     )
 }
 
+fn compare_receiver(
+    rt: &impl Abort,
+    alloc: Global,
+    is_able: bool,
+    (item, borrow): (usize, Option<Mutability>),
+    wanted: &str,
+) -> Result<(), NoMemory> {
+    let got = receiver(alloc, is_able, item, borrow)?;
+    assert_eq!(rt;
+        got.as_str(),
+        wanted,
+        "of {item}, with all features: {is_able}"
+    );
+    Ok(())
+}
+
 #[test]
 fn receivers(rt: HostRuntime) -> Result<(), NoMemory> {
-    for (item, borrow, without, with_all) in RECEIVERS {
-        let got = receiver(rt.alloc(), false, item, borrow)?;
-        assert_eq!(rt; got.as_str(), without, "of {item} without features");
-        let got = receiver(rt.alloc(), true, item, borrow)?;
-        assert_eq!(rt; got.as_str(), with_all, "of {item} with all features");
+    for (item, borrow, without, with_all) in &RECEIVERS {
+        compare_receiver(&rt, rt.alloc(), false, (*item, *borrow), without)?;
+        compare_receiver(&rt, rt.alloc(), true, (*item, *borrow), with_all)?;
     }
     Ok(())
 }

@@ -417,18 +417,26 @@ const SLICES_OF_OPAQUES: [(&str, &str, &str); 10] = [
     ),
 ];
 
+fn compare_row(
+    rt: &impl Abort,
+    alloc: Global,
+    is_able: bool,
+    ty: &str,
+    wanted: &str,
+) -> Result<(), NoMemory> {
+    let got = row_of(alloc, is_able, ty)?;
+    assert_eq!(rt;
+        got.as_str(),
+        wanted,
+        "of {ty}, with all features: {is_able}"
+    );
+    Ok(())
+}
+
 fn compare(rt: &impl Abort, alloc: Global, rows: &[(&str, &str, &str)]) -> Result<(), NoMemory> {
     for (ty, without, with_all) in rows {
-        assert_eq!(rt;
-            row_of(alloc, false, ty)?.as_str(),
-            *without,
-            "of {ty} without features"
-        );
-        assert_eq!(rt;
-            row_of(alloc, true, ty)?.as_str(),
-            *with_all,
-            "of {ty} with all features"
-        );
+        compare_row(rt, alloc, false, ty, without)?;
+        compare_row(rt, alloc, true, ty, with_all)?;
     }
     Ok(())
 }
