@@ -67,41 +67,6 @@ fn has_numbers(lifetimes: &BTreeSet<Lifetime>, numbers: &[usize]) -> bool {
     rest.is_empty()
 }
 
-/// Compares the lifetimes that the return names with these numbers.
-fn names(
-    rt: &impl Abort,
-    alloc: Global,
-    returned: &Returned,
-    numbers: &[usize],
-) -> Result<(), Fail> {
-    let lifetimes = returned.used_method_lifetimes(alloc)?;
-    assert!(rt; has_numbers(&lifetimes, numbers));
-    Ok(())
-}
-
-/// Compares those that a copy of the return names.
-fn copy_names(
-    rt: &impl Abort,
-    alloc: Global,
-    returned: &Returned,
-    numbers: &[usize],
-) -> Result<(), Fail> {
-    let copy = returned.try_clone(alloc)?;
-    names(rt, alloc, &copy, numbers)
-}
-
-/// Compares those of the return, which has one type, and of a copy.
-fn names_in_both(
-    rt: &impl Abort,
-    alloc: Global,
-    returned: &Returned,
-    numbers: &[usize],
-) -> Result<(), Fail> {
-    assert!(rt; types_in(returned) == 1);
-    names(rt, alloc, returned, numbers)?;
-    copy_names(rt, alloc, returned, numbers)
-}
-
 /// `Box<Page<'4, 'static>>` behind the given owner.
 fn page(alloc: Global, owner: MaybeOwn) -> Result<OutType, Fail> {
     Ok(HirType::Opaque(opaque(alloc, &[Some(4), None], true, owner)?))
@@ -145,48 +110,71 @@ fn units_are_not_written(rt: HostRuntime) {
     compare(&rt, SuccessType::Unit, &row);
 }
 
-/// Whether nothing is returned where there is always this success.
-fn is_unit(success: Success) -> bool {
-    let returned: Returned = ReturnType::Infallible(success);
-    returned.is_ffi_unit()
+/// A return by its name in the table.
+fn returned(alloc: Global, name: &str) -> Result<Returned, Fail> {
+    Ok(match name {
+        "unit" => ReturnType::Infallible(SuccessType::Unit),
+        "writer" => ReturnType::Infallible(SuccessType::Write(WriteType::Str)),
+        "nullable unit" => ReturnType::Nullable(SuccessType::Unit),
+        "fallible unit" => ReturnType::Fallible(SuccessType::Unit, None),
+        "nullable page" => {
+            let page = page(alloc, MaybeOwn::Borrow(shared(1)))?;
+            ReturnType::Nullable(SuccessType::OutType(page))
+        }
+        "fallible page" => {
+            let error = page(alloc, MaybeOwn::Borrow(shared(2)))?;
+            ReturnType::Fallible(SuccessType::Unit, Some(error))
+        }
+        _ => ReturnType::Infallible(SuccessType::OutType(HirType::Primitive(PrimitiveType::Char))),
+    })
+}
+
+/// A return with whether nothing is returned then, whether its success is the unit, how many types it has, and the lifetimes that it names.
+type ReturnRow = (&'static str, bool, bool, usize, &'static [usize]);
+
+const RETURNS: [ReturnRow; 7] = [
+    ("unit", true, true, 0, &[]),
+    ("writer", true, false, 0, &[]),
+    ("character", false, false, 1, &[]),
+    ("nullable unit", false, true, 0, &[]),
+    ("fallible unit", false, true, 0, &[]),
+    ("nullable page", false, false, 1, &[1, 4]),
+    ("fallible page", false, true, 1, &[2, 4]),
+];
+
+/// Whether the return is what the row says.
+fn is_returned(alloc: Global, returned: &Returned, row: &ReturnRow) -> Result<bool, Fail> {
+    let (_name, is_nothing, is_unit, types, numbers) = row;
+    let lifetimes = returned.used_method_lifetimes(alloc)?;
+    Ok(
+        returned.is_ffi_unit() == *is_nothing
+            && returned.success_type().is_unit() == *is_unit
+            && types_in(returned) == *types
+            && has_numbers(&lifetimes, numbers),
+    )
+}
+
+/// Whether a copy is.
+fn is_copied(alloc: Global, returned: &Returned, row: &ReturnRow) -> Result<bool, Fail> {
+    let copy = returned.try_clone(alloc)?;
+    is_returned(alloc, &copy, row)
+}
+
+/// Whether the return and a copy of it are.
+fn are_both(alloc: Global, returned: &Returned, row: &ReturnRow) -> Result<bool, Fail> {
+    Ok(is_returned(alloc, returned, row)? && is_copied(alloc, returned, row)?)
+}
+
+/// Whether the return of the row's name and a copy of it are.
+fn are_returned(alloc: Global, row: &ReturnRow) -> Result<bool, Fail> {
+    let returned = returned(alloc, row.0)?;
+    are_both(alloc, &returned, row)
 }
 
 #[test]
-fn nothing_is_returned_by_what_always_succeeds_without_a_value(rt: HostRuntime) {
-    assert!(rt; is_unit(SuccessType::Unit));
-    assert!(rt; is_unit(SuccessType::Write(WriteType::Str)));
-}
-
-#[test]
-fn a_value_is_returned(rt: HostRuntime) {
-    let number = SuccessType::OutType(HirType::Primitive(PrimitiveType::Char));
-    let returned: Returned = ReturnType::Infallible(number);
-    assert!(rt; !returned.is_ffi_unit() && types_in(&returned) == 1);
-}
-
-#[test]
-fn something_is_returned_by_what_may_return_nothing(rt: HostRuntime) {
-    let nullable: Returned = ReturnType::Nullable(SuccessType::Unit);
-    assert!(rt; !nullable.is_ffi_unit() && nullable.success_type().is_unit());
-}
-
-#[test]
-fn something_is_returned_by_what_may_fail(rt: HostRuntime) {
-    let fallible: Returned = ReturnType::Fallible(SuccessType::Unit, None);
-    assert!(rt; !fallible.is_ffi_unit() && types_in(&fallible) == 0);
-}
-
-#[test]
-fn a_return_names_its_lifetimes_in_order(rt: HostRuntime) -> Result<(), Fail> {
-    let page = page(rt.alloc(), MaybeOwn::Borrow(shared(1)))?;
-    let returned = ReturnType::Nullable(SuccessType::OutType(page));
-    names_in_both(&rt, rt.alloc(), &returned, &[1, 4])
-}
-
-#[test]
-fn a_return_names_the_lifetimes_of_its_error(rt: HostRuntime) -> Result<(), Fail> {
-    let error = page(rt.alloc(), MaybeOwn::Borrow(shared(2)))?;
-    let returned = ReturnType::Fallible(SuccessType::Unit, Some(error));
-    assert!(rt; returned.success_type().is_unit());
-    names_in_both(&rt, rt.alloc(), &returned, &[2, 4])
+fn returns_are_what_they_say(rt: HostRuntime) -> Result<(), Fail> {
+    for row in &RETURNS {
+        assert!(rt; are_returned(rt.alloc(), row)?);
+    }
+    Ok(())
 }
