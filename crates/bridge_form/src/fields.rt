@@ -56,8 +56,10 @@ impl<'k> Fields<'k> {
 
     /// The next key, with what stands under it, where null stands for nothing; none where no key is left.
     pub fn next(&mut self) -> Option<(Key, Option<Value>)>
-        ensures ends { length self.old.keys.now ≤ self.old.read → result ≡ None }
-        ensures left { (key : Name) (keys : List Name) (d : Data) → IsLeft self.old (key ∷ keys) d
+        ensures ends { length self.old.keys.now ≤ self.old.read
+            → (result ≡ None) × (self.new ≡ self.old) }
+        ensures left { (key : Name) (keys : List Name) (d : Data)
+            → IsLeft self.old (key ∷ keys) d
             → (option_map seen result ≡ Some (key, under key d)) × IsLeft self.new keys d }
     {
         let number = self.read;
@@ -86,7 +88,8 @@ pub fn sole(alloc: Global, value: Value, form: &[Key]) -> Result<(Key, Value), R
 /// The number of the only member, with its value.
 #[tactic(auto, using(crate::proofs::SoleLemmas::alone_more))]
 fn alone(mut members: Vec<Member>) -> Option<(usize, Value)>
-    ensures { option_map (λ one. (one.0, view one.1)) result ≡ alone (members_seen members.items) }
+    ensures { option_map (λ one. (one.0, view one.1)) result
+        ≡ alone (members_seen members.items) }
 {
     let Member { number, value } = members.pop()?;
     if members.is_empty() {
@@ -110,9 +113,11 @@ fn place_of(members: &[Member], number: usize) -> Option<usize>
 /// Takes what the member of that place holds.
 fn take_at(members: &mut [Member], place: usize) -> Option<Value>
     requires { place < length members.old }
-    ensures taken { (number : ℕ) → place_of number (members_seen members.old) ≡ Some place
+    ensures taken { (number : ℕ)
+        → place_of number (members_seen members.old) ≡ Some place
         → option_map view result ≡ held_at number (members_seen members.old) }
-    ensures left { (number : ℕ) → place_of number (members_seen members.old) ≡ Some place
+    ensures left { (number : ℕ)
+        → place_of number (members_seen members.old) ≡ Some place
         → members_seen members.new ≡ without number (members_seen members.old) }
 {
     members[place].value.take()
@@ -122,7 +127,8 @@ fn take_at(members: &mut [Member], place: usize) -> Option<Value>
 #[tactic(auto, using(crate::proofs::FieldLemmas::place_within, crate::proofs::FieldLemmas::none_held, crate::proofs::FieldLemmas::none_taken))]
 fn take(members: &mut Vec<Member>, number: usize) -> Option<Value>
     ensures taken { option_map view result ≡ held_at number (members_seen members.old.items) }
-    ensures left { members_seen members.new.items ≡ without number (members_seen members.old.items) }
+    ensures left { members_seen members.new.items
+        ≡ without number (members_seen members.old.items) }
 {
     match place_of(members.as_slice(), number) {
         Some(place) => take_at(members.as_mut_slice(), place),

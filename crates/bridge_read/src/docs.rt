@@ -9,7 +9,7 @@ ghost use Rattle.bridge_form.specs.Left.{IsLeft};
 ghost use Rattle.bridge_read.specs.inside.Taking.{Takes};
 
 use crate::attrs::no_attrs;
-use crate::reading::{FromForm, held, listed, needed};
+use crate::reading::{FromForm, held, listed, needed, needed_word};
 use bridge_ast::{Attrs, DocBlock, Docs, Items, RustLink};
 use bridge_form::{Fields, Key, ReadFault};
 use serde_json::Value;
@@ -30,7 +30,7 @@ impl FromForm for DocBlock {
     }
 }
 
-#[tactic(auto, unfolding(crate::specs::forms::Docs::link, bridge_form::specs::Left::are_apart, bridge_form::specs::Keys::key_text))]
+#[tactic(auto, unfolding(crate::specs::forms::Docs::link, crate::specs::forms::Docs::doc_kind, crate::specs::forms::Docs::display, bridge_form::specs::Left::are_apart, bridge_form::specs::Keys::key_text))]
 impl FromForm for RustLink {
     ghost use Rattle.bridge_read.specs.forms.Docs.{link};
 
@@ -40,8 +40,8 @@ impl FromForm for RustLink {
         let mut left = Fields::of(alloc, value, &[Key::Path, Key::Kind, Key::Display])?;
         Ok(RustLink {
             path: needed(alloc, &mut left)?,
-            typ: needed(alloc, &mut left)?,
-            display: needed(alloc, &mut left)?,
+            typ: needed_word(alloc, &mut left)?,
+            display: needed_word(alloc, &mut left)?,
         })
     }
 }

@@ -17,8 +17,8 @@
 //! environment, and a second item `Locale` of `ffi` is a `duplicate item` at `/root/modules/0/items/1`.
 //!
 //! `bridge_form` takes objects apart, whatever they spell, `bridge_words` has the tables of words, and `bridge_pointers` finds the pointer of a
-//! declaration. Here `reading` has the trait by which parts are read; `words`, `lifetimes`, `types`, `attrs`, `docs`, `methods`, `items`, `modules`
-//! and `settings` read a subject each.
+//! declaration. Here `reading` has the trait by which parts are read; `lifetimes`, `types`, `attrs`, `docs`, `methods`, `items`, `modules` and
+//! `settings` read a subject each.
 #![tactic(auto)]
 
 mod attrs;
@@ -31,7 +31,6 @@ mod modules;
 mod reading;
 mod settings;
 mod types;
-mod words;
 
 pub use bridge_form::InputKind;
 pub use input::{Input, InputFault, read_input};

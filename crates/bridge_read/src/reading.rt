@@ -4,7 +4,7 @@ ghost use Rattle.std.specs.Prelude.{◌≡◌, [], ◌∷◌, List, false, IfOk,
 ghost use Rattle.serde_json.specs.Data.{Data};
 ghost use Rattle.serde_json.specs.View.{view, items_view};
 ghost use Rattle.bridge_form.specs.declared.keys.Key.{Key as Name};
-ghost use Rattle.bridge_form.specs.Form.{two_of};
+ghost use Rattle.bridge_form.specs.Form.{one_word, two_of};
 ghost use Rattle.bridge_form.specs.Given.{Gives, GivesBy};
 ghost use Rattle.bridge_read.specs.inside.Taking.{Takes, held, needed, optional, some_of};
 ghost use Rattle.bridge_form.specs.Left.{IsLeft};
@@ -12,6 +12,7 @@ ghost use Rattle.bridge_form.specs.Reading.{entries_of, flag_of, list_of, text_o
 
 use bridge_ast::{Items, NoMemory, Text};
 use bridge_form::{Fields, ReadFault, entries, in_entry, in_member, owned_text};
+use bridge_words::{Word, one_word};
 use serde_json::Value;
 use std::alloc::Global;
 
@@ -156,6 +157,17 @@ pub fn needed<T: FromForm>(alloc: Global, left: &mut Fields) -> Result<T, ReadFa
 {
     match left.next() {
         Some((key, Some(value))) => in_member(alloc, key, T::from_form(alloc, value)),
+        _ => Err(ReadFault::missing_key(alloc)),
+    }
+}
+
+/// What the word under the next key stands for, which is required.
+pub fn needed_word<W: Word>(alloc: Global, left: &mut Fields) -> Result<W, ReadFault>
+    ensures { (key : Name) (keys : List Name) (d : Data) → IsLeft left.old (key ∷ keys) d
+        → Takes result (needed (one_word W.words).read key d) left.new keys d }
+{
+    match left.next() {
+        Some((key, Some(value))) => in_member(alloc, key, one_word(alloc, &value)),
         _ => Err(ReadFault::missing_key(alloc)),
     }
 }

@@ -5,9 +5,10 @@ ghost use Rattle.serde_json.specs.Data.{Data};
 ghost use Rattle.hir_backends.specs.Support.{no_flags};
 ghost use Rattle.bridge_form.specs.declared.keys.Key.{Key as Name};
 ghost use Rattle.bridge_form.specs.Form.{find_word, read_alone};
-ghost use Rattle.bridge_read.specs.forms.Settings.{backend_names, flag_words, turned_on};
+ghost use Rattle.bridge_form.specs.Reading.{list_of, text_of};
+ghost use Rattle.bridge_read.specs.forms.Settings.{backend_names, flag_words, name_value, turned_on};
 ghost use Rattle.bridge_form.specs.Left.{IsLeft};
-ghost use Rattle.bridge_read.specs.inside.Taking.{Takes};
+ghost use Rattle.bridge_read.specs.inside.Taking.{Takes, held};
 
 use crate::reading::{FromForm, flag, held, listed, needed, optional};
 use bridge_ast::{Items, NoMemory, Text};
@@ -84,8 +85,24 @@ impl FromForm for (Text, Text) {
     }
 }
 
+/// The names under the next key; none where nothing stands there.
+fn names(alloc: Global, left: &mut Fields) -> Result<Names, ReadFault>
+    ensures { (key : Name) (keys : List Name) (d : Data) → IsLeft left.old (key ∷ keys) d
+        → Takes result (held [] (list_of text_of) key d) left.new keys d }
+{
+    Ok(Names::new(alloc, listed(alloc, left)?)?)
+}
+
+/// The pairs under the next key; none where nothing stands there.
+fn pairs(alloc: Global, left: &mut Fields) -> Result<Pairs, ReadFault>
+    ensures { (key : Name) (keys : List Name) (d : Data) → IsLeft left.old (key ∷ keys) d
+        → Takes result (held [] (list_of name_value.read) key d) left.new keys d }
+{
+    Ok(Pairs::new(alloc, listed(alloc, left)?)?)
+}
+
 /// The names of a backend, with what it supports.
-type BackendNames = (Text, Items<Text>, BackendAttrSupport);
+type BackendNames = (Text, Names, BackendAttrSupport);
 
 /// The keys that the backend begins with.
 #[tactic(auto, unfolding(crate::specs::forms::Settings::backend_names))]
@@ -95,7 +112,7 @@ fn backend_names(alloc: Global, left: &mut Fields) -> Result<BackendNames, ReadF
         → Takes result (read_alone backend_names d) left.new keys d }
 {
     let name = held(alloc, left, Text::new(alloc, "")?)?;
-    let others = listed(alloc, left)?;
+    let others = names(alloc, left)?;
     let support = held(alloc, left, BackendAttrSupport::none())?;
     Ok((name, others, support))
 }
@@ -120,17 +137,14 @@ impl FromForm for BasicAttributeValidator {
                 Key::Unstable,
             ],
         )?;
-        let (backend_name, others, support) = backend_names(alloc, &mut left)?;
-        let pairs = listed(alloc, &mut left)?;
-        let features = listed(alloc, &mut left)?;
-        let unstable = listed(alloc, &mut left)?;
+        let (backend_name, other_backend_names, support) = backend_names(alloc, &mut left)?;
         Ok(BasicAttributeValidator {
             backend_name,
             support,
-            other_backend_names: Names::new(alloc, others)?,
-            name_values: Pairs::new(alloc, pairs)?,
-            features_enabled: Names::new(alloc, features)?,
-            semver_unstable_features: Names::new(alloc, unstable)?,
+            other_backend_names,
+            name_values: pairs(alloc, &mut left)?,
+            features_enabled: names(alloc, &mut left)?,
+            semver_unstable_features: names(alloc, &mut left)?,
         })
     }
 }

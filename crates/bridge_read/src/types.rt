@@ -12,7 +12,7 @@ ghost use Rattle.bridge_form.specs.Left.{IsLeft};
 ghost use Rattle.bridge_read.specs.forms.Types.{borrow_of, spelling, type_called, type_word, type_keys, type_under, type_within, written_primitive, writer_called, reference_type, result_type, custom_slice, callback, str_slice, str_list, primitive_slice, written_borrow};
 
 use crate::lifetimes::mutability;
-use crate::reading::{FromForm, flag, needed, optional, room_for};
+use crate::reading::{FromForm, flag, needed, needed_word, optional, room_for};
 use bridge_ast::{
     Boxed, Items, Lifetime, Mutability, PathType, PrimitiveType, StdlibOrDiplomat, TypeName,
     WriteType,
@@ -100,24 +100,24 @@ impl FromForm for WriteType {
 }
 
 /// `{"lifetime": lifetime, "encoding": encoding, "std": bool}`.
-#[tactic(auto, unfolding(crate::specs::forms::Types::str_slice, bridge_form::specs::Left::are_apart, bridge_form::specs::Keys::key_text))]
+#[tactic(auto, unfolding(crate::specs::forms::Types::str_slice, crate::specs::forms::Types::encoding, bridge_form::specs::Left::are_apart, bridge_form::specs::Keys::key_text))]
 fn str_slice(alloc: Global, value: Value) -> Result<TypeName, ReadFault>
     ensures { Gives result (str_slice.read (view value)) }
 {
     let mut left = Fields::of(alloc, value, &[Key::Lifetime, Key::Encoding, Key::Std])?;
     let lifetime = optional(alloc, &mut left)?;
-    let encoding = needed(alloc, &mut left)?;
+    let encoding = needed_word(alloc, &mut left)?;
     let std = flag(alloc, &mut left)?;
     Ok(TypeName::StrReference(lifetime, encoding, spelling(std)))
 }
 
 /// `{"encoding": encoding, "std": bool}`.
-#[tactic(auto, unfolding(crate::specs::forms::Types::str_list, bridge_form::specs::Left::are_apart, bridge_form::specs::Keys::key_text))]
+#[tactic(auto, unfolding(crate::specs::forms::Types::str_list, crate::specs::forms::Types::encoding, bridge_form::specs::Left::are_apart, bridge_form::specs::Keys::key_text))]
 fn str_list(alloc: Global, value: Value) -> Result<TypeName, ReadFault>
     ensures { Gives result (str_list.read (view value)) }
 {
     let mut left = Fields::of(alloc, value, &[Key::Encoding, Key::Std])?;
-    let encoding = needed(alloc, &mut left)?;
+    let encoding = needed_word(alloc, &mut left)?;
     let std = flag(alloc, &mut left)?;
     Ok(TypeName::StrSlice(encoding, spelling(std)))
 }
@@ -142,7 +142,7 @@ fn borrow(alloc: Global, left: &mut Fields) -> Result<Option<(Lifetime, Mutabili
 }
 
 /// `{"lifetime": lifetime, "mutable": bool, "of": primitive type, "std": bool}`.
-#[tactic(auto, unfolding(crate::specs::forms::Types::primitive_slice, crate::specs::forms::Types::borrow, crate::specs::forms::Types::written_borrow, bridge_form::specs::Left::are_apart, bridge_form::specs::Keys::key_text))]
+#[tactic(auto, unfolding(crate::specs::forms::Types::primitive_slice, crate::specs::forms::Types::primitive_name, crate::specs::forms::Types::borrow, crate::specs::forms::Types::written_borrow, bridge_form::specs::Left::are_apart, bridge_form::specs::Keys::key_text))]
 fn primitive_slice(alloc: Global, value: Value) -> Result<TypeName, ReadFault>
     ensures { Gives result (primitive_slice.read (view value)) }
 {
@@ -152,7 +152,7 @@ fn primitive_slice(alloc: Global, value: Value) -> Result<TypeName, ReadFault>
         &[Key::Lifetime, Key::Mutable, Key::Of, Key::Std],
     )?;
     let borrow = borrow(alloc, &mut left)?;
-    let of = needed(alloc, &mut left)?;
+    let of = needed_word(alloc, &mut left)?;
     let std = flag(alloc, &mut left)?;
     Ok(TypeName::PrimitiveSlice(borrow, of, spelling(std)))
 }
