@@ -26,7 +26,6 @@ mod usage;
 mod values;
 mod worked;
 
-use backends::input;
 use std::alloc::Global;
 use std::process::Abort;
 use std::test::Fail;
@@ -38,30 +37,23 @@ const DECLARED: &str =
 /// Declarations in the notation of `notation`, and `ok` or what is told of them.
 type Row = (&'static str, &'static str);
 
-/// Compares what is told of the declarations of a row, before which others stand, where the backend supports that.
-fn compare_row(
-    rt: &impl Abort,
-    alloc: Global,
-    supported: &str,
-    before: &str,
-    row: &Row,
-) -> Result<(), Fail> {
+/// Compares what is found of declarations with what is expected.
+fn compare_found(rt: &impl Abort, found: &str, expected: &str, declared: &str) {
+    assert_eq!(rt; found, expected, "of {declared}");
+}
+
+/// Compares what is told of the declarations of a row, before which others stand, where the backend supports all.
+fn compare_row(rt: &impl Abort, alloc: Global, before: &str, row: &Row) -> Result<(), Fail> {
     let (declared, expected) = row;
-    let text = input(alloc, supported, before, declared)?;
-    match answers::lowered(alloc, text.as_str())? {
-        Ok(_) => assert_eq!(rt; "ok", *expected, "of {declared}"),
-        Err(reports) => {
-            let told = answers::told(alloc, reports.as_slice())?;
-            assert_eq!(rt; told.as_str(), *expected, "of {declared}");
-        }
-    }
+    let found = answers::answer(alloc, backends::ALL, before, declared)?;
+    compare_found(rt, found.as_str(), expected, declared);
     Ok(())
 }
 
-/// Compares what is told of all rows, where the backend supports all.
+/// Compares what is told of all rows.
 fn compare(rt: &impl Abort, alloc: Global, before: &str, rows: &[Row]) -> Result<(), Fail> {
     for row in rows {
-        compare_row(rt, alloc, backends::ALL, before, row)?;
+        compare_row(rt, alloc, before, row)?;
     }
     Ok(())
 }

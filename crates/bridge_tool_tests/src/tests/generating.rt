@@ -4,38 +4,54 @@ use super::program::{runs_to, words_of};
 use bridge_ast::Env;
 use bridge_generate::generated;
 use bridge_summary::print_summary;
-use bridge_tool::{MemSink, MemSource, PlainSink, lower_and_borrow, read_input, run};
+use bridge_tool::{
+    BridgeReport, Input, MemSink, MemSource, PlainSink, lower_and_borrow, read_input, run,
+};
 use std::alloc::{AllocError, Global};
+use std::process::Abort;
 
 // No declaration, and a backend with functions outside of types.
 const FUNCTIONS: &str = r#"{"root":{},"backend":{"supports":["free_functions"]}}"#;
 
-/// Whether the declarations break no rule, and this is their summary.
-fn sum_up_to(alloc: Global, env: &Env, text: &str) -> Result<bool, AllocError> {
-    let Ok(input) = read_input(alloc, FUNCTIONS.as_bytes()) else {
-        return Ok(false);
-    };
-    let Ok(report) = lower_and_borrow(alloc, env, input.config, &input.validator) else {
-        return Ok(false);
-    };
+/// Whether this is the summary of what is reported.
+fn is_summary(alloc: Global, report: &BridgeReport, text: &str) -> bool {
     let mut sink = PlainSink::new(alloc);
-    if print_summary(&mut sink, report.callables.as_slice()).is_err() {
-        return Ok(false);
+    let printed = print_summary(&mut sink, report.callables.as_slice());
+    printed.is_ok() && sink.bytes() == text.as_bytes()
+}
+
+/// Whether the declarations break no rule under the settings of an input, and this is their summary.
+fn sum_up_under(alloc: Global, env: &Env, settings: &Input, text: &str) -> bool {
+    match lower_and_borrow(alloc, env, settings.config, &settings.validator) {
+        Ok(report) => is_summary(alloc, &report, text),
+        Err(_) => false,
     }
-    Ok(sink.bytes() == text.as_bytes())
+}
+
+/// The same where functions outside of types are supported.
+fn sum_up_to(alloc: Global, env: &Env, text: &str) -> bool {
+    match read_input(alloc, FUNCTIONS.as_bytes()) {
+        Ok(settings) => sum_up_under(alloc, env, &settings, text),
+        Err(_) => false,
+    }
+}
+
+/// Compares the summary of declarations.
+fn compare(rt: &impl Abort, alloc: Global, env: &Env, text: &str) {
+    assert!(rt; sum_up_to(alloc, env, text));
 }
 
 #[test]
 fn eight_generated_break_no_rule(rt: HostRuntime) -> Result<(), AllocError> {
     let env = generated(rt.alloc(), 8)?;
-    assert!(rt; sum_up_to(rt.alloc(), &env, "callables 8\nlisted 44\nok\n")?);
+    compare(&rt, rt.alloc(), &env, "callables 8\nlisted 44\nok\n");
     Ok(())
 }
 
 #[test]
 fn ten_thousand_generated_break_no_rule(rt: HostRuntime) -> Result<(), AllocError> {
     let env = generated(rt.alloc(), 10000)?;
-    assert!(rt; sum_up_to(rt.alloc(), &env, "callables 10000\nlisted 55000\nok\n")?);
+    compare(&rt, rt.alloc(), &env, "callables 10000\nlisted 55000\nok\n");
     Ok(())
 }
 

@@ -174,6 +174,18 @@ fn is_kept(map: &BTreeMap<Lifetime, BorrowedLifetimeInfo<'_>>, expected: &[Held<
     map.len() == expected.len()
 }
 
+/// What the function of a context holds for the lifetimes that are kept.
+fn held<'tcx>(
+    alloc: Global,
+    tcx: &'tcx TypeContext,
+    with_slices: bool,
+) -> Result<BTreeMap<Lifetime, BorrowedLifetimeInfo<'tcx>>, Fail> {
+    let method = function(tcx)?;
+    let mut visitor = method.borrowing_param_visitor(alloc, tcx, with_slices)?;
+    visit(alloc, &mut visitor, method)?;
+    Ok(visitor.borrow_map())
+}
+
 /// Compares all that the function of a context holds for the lifetimes that are kept.
 pub fn compare_held(
     rt: &impl Abort,
@@ -182,9 +194,19 @@ pub fn compare_held(
     with_slices: bool,
     expected: &[Held<'_>],
 ) -> Result<(), Fail> {
-    let method = function(tcx)?;
-    let mut visitor = method.borrowing_param_visitor(alloc, tcx, with_slices)?;
-    visit(alloc, &mut visitor, method)?;
-    assert!(rt; is_kept(&visitor.borrow_map(), expected));
+    let held = held(alloc, tcx, with_slices)?;
+    assert!(rt; is_kept(&held, expected));
     Ok(())
+}
+
+/// Compares what both visitors find, without slices.
+pub fn compare_both(
+    rt: &impl Abort,
+    alloc: Global,
+    tcx: &TypeContext,
+    leaves: &[Leaf],
+    held: &[Held<'_>],
+) -> Result<(), Fail> {
+    compare_leaves(rt, alloc, tcx, leaves)?;
+    compare_held(rt, alloc, tcx, false, held)
 }

@@ -85,11 +85,16 @@ fn compare_nest(rt: &impl Abort, alloc: Global, tcx: &TypeContext) -> Result<(),
 /// What is held in a nest.
 const HELD_IN_NEST: &[Held<'static>] = &[(0, &[Edge::Struct("p", 0, false)])];
 
+/// Compares what is held in a nest, and its leaves.
+fn compare_all(rt: &impl Abort, alloc: Global, tcx: &TypeContext) -> Result<(), Fail> {
+    compare_held(rt, alloc, tcx, false, HELD_IN_NEST)?;
+    compare_nest(rt, alloc, tcx)
+}
+
 #[test]
 fn a_nest_has_a_leaf_for_each_way(rt: HostRuntime) -> Result<(), Fail> {
     let tcx = nest(rt.alloc(), 10)?;
-    compare_held(&rt, rt.alloc(), &tcx, false, HELD_IN_NEST)?;
-    compare_nest(&rt, rt.alloc(), &tcx)
+    compare_all(&rt, rt.alloc(), &tcx)
 }
 
 /// A function that takes a struct which holds one that is disabled.

@@ -1,6 +1,6 @@
 //! Both visitors on whole signatures.
 
-use crate::tests::comparing::{Edge, Held, Leaf, compare_held, compare_leaves};
+use crate::tests::comparing::{Edge, Held, Leaf, compare_both};
 use crate::tests::made::{Made, Of, STATIC};
 use crate::tests::signatures::{Signature, context};
 use std::alloc::Global;
@@ -135,8 +135,7 @@ const BOUNDED: Row = (
 fn compare_row(rt: &impl Abort, alloc: Global, row: &Row) -> Result<(), Fail> {
     let (structs, signature, leaves, held) = row;
     let tcx = context(alloc, structs, signature)?;
-    compare_leaves(rt, alloc, &tcx, leaves)?;
-    compare_held(rt, alloc, &tcx, false, held)
+    compare_both(rt, alloc, &tcx, leaves, held)
 }
 
 #[test]

@@ -139,13 +139,24 @@ fn taking(alloc: Global, params: Named) -> Result<TypeContext, Fail> {
     context(alloc, STRUCTS, &signature)
 }
 
+/// Compares what is found and kept in a context.
+fn compare_found(
+    rt: &impl Abort,
+    alloc: Global,
+    tcx: &TypeContext,
+    leaves: &[Leaf],
+    held: &[Held<'_>],
+) -> Result<(), Fail> {
+    compare_leaves(rt, alloc, tcx, leaves)?;
+    compare_held(rt, alloc, tcx, false, &[])?;
+    compare_held(rt, alloc, tcx, true, held)
+}
+
 /// Compares what is found and kept.
 fn compare_row(rt: &impl Abort, alloc: Global, row: &Row) -> Result<(), Fail> {
     let (params, leaves, held) = row;
     let tcx = taking(alloc, params)?;
-    compare_leaves(rt, alloc, &tcx, leaves)?;
-    compare_held(rt, alloc, &tcx, false, &[])?;
-    compare_held(rt, alloc, &tcx, true, held)
+    compare_found(rt, alloc, &tcx, leaves, held)
 }
 
 /// Compares each row.

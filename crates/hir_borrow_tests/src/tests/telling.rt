@@ -1,7 +1,5 @@
 //! What is told of inputs when they are visited.
 
-ghost use Rattle.hir_context.specs.Fitness.{MethodFits};
-
 use crate::tests::made::{Made, Of, STATIC};
 use crate::tests::signatures::{Signature, context, function};
 use bridge_decl::NoMemory;
@@ -112,18 +110,25 @@ fn compare_params<'tcx>(
     Ok(())
 }
 
+/// Compares which lifetimes outlive each, and what is told of each parameter.
+fn compare_told<'tcx>(
+    rt: &impl Abort,
+    visitor: &mut BorrowingParamVisitor<'tcx>,
+    method: &'tcx Method,
+) -> Result<(), Fail> {
+    assert!(rt; are_longer(visitor));
+    compare_params(rt, visitor, method)
+}
+
 /// The same by a visitor that has visited none.
-fn compare(rt: &impl Abort, alloc: Global, tcx: &TypeContext, method: &Method) -> Result<(), Fail>
-    requires { MethodFits tcx.now.definitions method.now }
-{
+fn compare(rt: &impl Abort, alloc: Global, tcx: &TypeContext) -> Result<(), Fail> {
+    let method = function(tcx)?;
     let mut visitor = method.borrowing_param_visitor(alloc, tcx, false)?;
-    assert!(rt; are_longer(&visitor));
-    compare_params(rt, &mut visitor, method)
+    compare_told(rt, &mut visitor, method)
 }
 
 #[test]
 fn visits_tell_of_inputs(rt: HostRuntime) -> Result<(), Fail> {
     let tcx = context(rt.alloc(), STRUCTS, &TAKING)?;
-    let method = function(&tcx)?;
-    compare(&rt, rt.alloc(), &tcx, method)
+    compare(&rt, rt.alloc(), &tcx)
 }

@@ -1,7 +1,8 @@
 //! Accepted declarations, and the contexts that they make.
 
-use crate::tests::answers::{lowered, told};
-use crate::tests::backends::{ALL, input};
+use crate::tests::answers::{Lowered, lowered, told};
+use crate::tests::backends::ALL;
+use crate::tests::compare_found;
 use crate::tests::contexts::rendered;
 use std::alloc::Global;
 use std::process::Abort;
@@ -226,14 +227,24 @@ trait T
     ),
 ];
 
+/// The context, or what is told where there is none.
+fn rendered_or_told(alloc: Global, lowered: &Lowered) -> Result<String, Fail> {
+    match lowered {
+        Ok(tcx) => Ok(rendered(alloc, tcx)?),
+        Err(reports) => Ok(told(alloc, reports.as_slice())?),
+    }
+}
+
+/// That of the declarations of a row.
+fn answer(alloc: Global, supported: &str, declared: &str) -> Result<String, Fail> {
+    let lowered = lowered(alloc, supported, "", declared)?;
+    rendered_or_told(alloc, &lowered)
+}
+
 fn compare_row(rt: &impl Abort, alloc: Global, row: &(&str, &str, &str)) -> Result<(), Fail> {
     let (supported, declared, expected) = row;
-    let text = input(alloc, supported, "", declared)?;
-    let found = match lowered(alloc, text.as_str())? {
-        Ok(tcx) => rendered(alloc, &tcx)?,
-        Err(reports) => told(alloc, reports.as_slice())?,
-    };
-    assert_eq!(rt; found.as_str(), *expected, "of {declared}");
+    let found = answer(alloc, supported, declared)?;
+    compare_found(rt, found.as_str(), expected, declared);
     Ok(())
 }
 

@@ -1,23 +1,40 @@
 //! What is answered, as texts.
 
+use crate::tests::backends::input;
 use bridge_decl::NoMemory;
-use bridge_read::read_input;
+use bridge_read::{Input, read_input};
 use hir_lower::{FromEnv, LowerFault, TypeContext};
 use hir_reports::LoweringReport;
 use std::alloc::{AllocError, Global};
 use std::test::Fail;
 
 /// The context of an input's declarations, or what is told of them.
-pub fn lowered(
-    alloc: Global,
-    text: &str,
-) -> Result<Result<TypeContext, Vec<LoweringReport>>, Fail> {
-    let input = read_input(alloc, text.as_bytes()).ok().ok_or("an input")?;
+pub type Lowered = Result<TypeContext, Vec<LoweringReport>>;
+
+/// That of an input.
+fn lowered_input(alloc: Global, input: &Input) -> Result<Lowered, Fail> {
     match TypeContext::from_env(alloc, &input.env, input.config, &input.validator) {
         Ok(tcx) => Ok(Ok(tcx)),
         Err(LowerFault::Refused(reports)) => Ok(Err(reports)),
         Err(LowerFault::NoMemory) => Err(Fail::from(AllocError)),
     }
+}
+
+/// That of the input which a text spells.
+fn lowered_text(alloc: Global, text: &str) -> Result<Lowered, Fail> {
+    let input = read_input(alloc, text.as_bytes()).ok().ok_or("an input")?;
+    lowered_input(alloc, &input)
+}
+
+/// That of the declarations of a row, before which others stand, where the backend supports that.
+pub fn lowered(
+    alloc: Global,
+    supported: &str,
+    before: &str,
+    declared: &str,
+) -> Result<Lowered, Fail> {
+    let text = input(alloc, supported, before, declared)?;
+    lowered_text(alloc, text.as_str())
 }
 
 /// Adds a place: what the first line of a report has after these words.
@@ -58,6 +75,25 @@ pub fn told(alloc: Global, reports: &[LoweringReport]) -> Result<String, NoMemor
         put_report(alloc, &mut text, report)?;
     }
     Ok(text)
+}
+
+/// What is told, or `ok` where the declarations are accepted.
+fn told_or_ok(alloc: Global, lowered: &Lowered) -> Result<String, Fail> {
+    match lowered {
+        Ok(_) => Ok(String::from_str(alloc, "ok")?),
+        Err(reports) => Ok(told(alloc, reports.as_slice())?),
+    }
+}
+
+/// That of the declarations of a row.
+pub fn answer(
+    alloc: Global,
+    supported: &str,
+    before: &str,
+    declared: &str,
+) -> Result<String, Fail> {
+    let lowered = lowered(alloc, supported, before, declared)?;
+    told_or_ok(alloc, &lowered)
 }
 
 /// The same as it is printed.

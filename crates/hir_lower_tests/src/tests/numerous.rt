@@ -1,8 +1,9 @@
 //! Declarations with as many lifetimes as there may be, and with one more; structs that nest as deep as they may, and deeper.
 
-use crate::tests::{Row, compare};
+use crate::tests::{Row, compare, compare_row};
 use bridge_decl::NoMemory;
 use std::alloc::Global;
+use std::process::Abort;
 use std::test::Fail;
 
 const ROWS: [Row; 12] = [
@@ -28,16 +29,18 @@ const ROWS: [Row; 12] = [
 ];
 
 /// `NestingTooDeep`: so many structs, of which each contains the one before it, a declaration after them, and what is told.
-const NESTED: [(usize, &str, &str); 5] = [
-    (256, "struct Last { x: u8 }", "ok"),
-    (257, "", "A256 NestingTooDeep"),
-    (258, "", "A256 NestingTooDeep; A257 NestingTooDeep"),
-    (256, "out_struct Last { x: A255 }", "Last NestingTooDeep"),
+const NESTED: [(usize, Row); 5] = [
+    (256, ("struct Last { x: u8 }", "ok")),
+    (257, ("", "A256 NestingTooDeep")),
+    (258, ("", "A256 NestingTooDeep; A257 NestingTooDeep")),
+    (256, ("out_struct Last { x: A255 }", "Last NestingTooDeep")),
     // One that contains itself isn't too deep, nor is what contains it.
     (
         1,
-        "struct B { x: DiplomatOption<B> } struct C { x: B }",
-        "B StructContainsItself",
+        (
+            "struct B { x: DiplomatOption<B> } struct C { x: B }",
+            "B StructContainsItself",
+        ),
     ),
 ];
 
@@ -63,11 +66,16 @@ fn lifetimes_are_counted(rt: HostRuntime) -> Result<(), Fail> {
     compare(&rt, rt.alloc(), "", &ROWS)
 }
 
+/// Compares what is told of so many structs and what stands after them.
+fn compare_nested(rt: &impl Abort, alloc: Global, count: usize, row: &Row) -> Result<(), Fail> {
+    let before = nested(alloc, count)?;
+    compare_row(rt, alloc, before.as_str(), row)
+}
+
 #[test]
 fn structs_nest_so_deep(rt: HostRuntime) -> Result<(), Fail> {
-    for (count, after, expected) in &NESTED {
-        let before = nested(rt.alloc(), *count)?;
-        compare(&rt, rt.alloc(), before.as_str(), &[(after, expected)])?;
+    for (count, row) in &NESTED {
+        compare_nested(&rt, rt.alloc(), *count, row)?;
     }
     Ok(())
 }

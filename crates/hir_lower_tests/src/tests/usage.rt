@@ -1,7 +1,8 @@
 //! How definitions are used.
 
-use crate::tests::answers::lowered;
-use crate::tests::backends::{ALL, input};
+use crate::tests::answers::{Lowered, lowered};
+use crate::tests::backends::ALL;
+use crate::tests::compare_found;
 use bridge_decl::NoMemory;
 use hir_definitions::{ResultUsage, TypingUseInfo};
 use hir_lower::TypeContext;
@@ -62,16 +63,24 @@ fn usages(alloc: Global, tcx: &TypeContext) -> Result<String, NoMemory> {
     Ok(text)
 }
 
+/// How those of a context are used, which has to be there.
+fn usages_of(alloc: Global, lowered: &Lowered) -> Result<String, Fail> {
+    match lowered {
+        Ok(tcx) => Ok(usages(alloc, tcx)?),
+        Err(_) => Err(Fail::from("a context")),
+    }
+}
+
+/// That of the declarations of a row.
+fn answer(alloc: Global, supported: &str, declared: &str) -> Result<String, Fail> {
+    let lowered = lowered(alloc, supported, "", declared)?;
+    usages_of(alloc, &lowered)
+}
+
 fn compare_row(rt: &impl Abort, alloc: Global, row: &(&str, &str, &str)) -> Result<(), Fail> {
     let (supported, declared, expected) = row;
-    let text = input(alloc, supported, "", declared)?;
-    match lowered(alloc, text.as_str())? {
-        Ok(tcx) => {
-            let found = usages(alloc, &tcx)?;
-            assert_eq!(rt; found.as_str(), *expected, "of {declared}");
-        }
-        Err(_) => return Err(Fail::from("a context")),
-    }
+    let found = answer(alloc, supported, declared)?;
+    compare_found(rt, found.as_str(), expected, declared);
     Ok(())
 }
 

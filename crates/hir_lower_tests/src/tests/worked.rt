@@ -1,7 +1,7 @@
 //! Worked examples: what is told of them, as it is printed.
 
-use crate::tests::answers::{lowered, printed};
-use crate::tests::backends::input;
+use crate::tests::answers::{Lowered, lowered, printed};
+use crate::tests::compare_found;
 use std::alloc::Global;
 use std::process::Abort;
 use std::test::Fail;
@@ -51,15 +51,23 @@ const ROWS: [(&str, &str); 10] = [
     ),
 ];
 
-fn compare_row(rt: &impl Abort, alloc: Global, declared: &str, expected: &str) -> Result<(), Fail> {
-    let text = input(alloc, SUPPORTED, "", declared)?;
-    match lowered(alloc, text.as_str())? {
-        Ok(_) => assert_eq!(rt; "", expected, "of {declared}"),
-        Err(reports) => {
-            let told = printed(alloc, reports.as_slice())?;
-            assert_eq!(rt; told.as_str(), expected, "of {declared}");
-        }
+/// What is told, as it is printed.
+fn printed_of(alloc: Global, lowered: &Lowered) -> Result<String, Fail> {
+    match lowered {
+        Ok(_) => Ok(String::new(alloc)),
+        Err(reports) => Ok(printed(alloc, reports.as_slice())?),
     }
+}
+
+/// That of declarations.
+fn answer(alloc: Global, declared: &str) -> Result<String, Fail> {
+    let lowered = lowered(alloc, SUPPORTED, "", declared)?;
+    printed_of(alloc, &lowered)
+}
+
+fn compare_row(rt: &impl Abort, alloc: Global, declared: &str, expected: &str) -> Result<(), Fail> {
+    let found = answer(alloc, declared)?;
+    compare_found(rt, found.as_str(), expected, declared);
     Ok(())
 }
 
