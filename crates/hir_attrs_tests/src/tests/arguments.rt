@@ -5,6 +5,7 @@ use super::{backend, read};
 use bridge_decl::NoMemory;
 use hir_attrs::BasicAttributeValidator;
 use std::alloc::Global;
+use std::process::Abort;
 
 /// No argument, five texts, each other literal, and lists of none, of what includes code, and of something else.
 pub const ARGUMENTS: [&str; 14] = [
@@ -108,12 +109,20 @@ fn with_all(
     row(alloc, cells.as_slice())
 }
 
+/// Compares what each mark comes to.
+fn compare_all(
+    rt: &impl Abort,
+    alloc: Global,
+    backend: &BasicAttributeValidator,
+) -> Result<(), NoMemory> {
+    for (mark, cells) in &ROWS {
+        assert!(rt; with_all(alloc, backend, mark)?.as_str() == *cells);
+    }
+    Ok(())
+}
+
 #[test]
 fn each_mark_takes_its_arguments(rt: HostRuntime) -> Result<(), NoMemory> {
     let backend = backend(rt.alloc(), true)?;
-    for (mark, cells) in &ROWS {
-        let found = with_all(rt.alloc(), &backend, mark)?;
-        assert!(rt; found.as_str() == *cells);
-    }
-    Ok(())
+    compare_all(&rt, rt.alloc(), &backend)
 }

@@ -1,9 +1,10 @@
 //! Marks under conditions. A rename under `auto` is told, so that what meets a condition is seen.
 
-use super::{backend, names, read};
+use super::{knowing, read};
 use bridge_decl::{Items, NoMemory, Text};
 use hir_attrs::{BackendAttrSupport, BasicAttributeValidator, Pairs, SupportFlag};
 use std::alloc::Global;
+use std::process::Abort;
 
 /// What `rename = 'x'` comes to where its condition is met, by `auto`, and isn't, and where it has a fault.
 const MET: &str = "rename(x)";
@@ -86,20 +87,10 @@ fn pairs(alloc: Global, name: &str, value: &str) -> Result<Pairs, NoMemory> {
 }
 
 /// The backend `cpp`, also called `c++`, with traits, the feature `data` and one pair.
-fn knowing(alloc: Global) -> Result<BasicAttributeValidator, NoMemory> {
-    let backend_name = Text::new(alloc, "cpp")?;
-    let other_backend_names = names(alloc, "c++")?;
-    let name_values = pairs(alloc, "abi", "itanium")?;
-    let features_enabled = names(alloc, "data")?;
-    let semver_unstable_features = names(alloc, "")?;
-    Ok(BasicAttributeValidator {
-        backend_name,
-        support: BackendAttrSupport::none().with(SupportFlag::Traits),
-        other_backend_names,
-        name_values,
-        features_enabled,
-        semver_unstable_features,
-    })
+fn with_traits(alloc: Global) -> Result<BasicAttributeValidator, NoMemory> {
+    let support = BackendAttrSupport::none().with(SupportFlag::Traits);
+    let pairs = pairs(alloc, "abi", "itanium")?;
+    knowing(alloc, support, pairs, ("c++", "data", ""))
 }
 
 /// What the rename comes to under a condition.
@@ -113,13 +104,22 @@ fn renamed(
     read(alloc, backend, text.as_str())
 }
 
-#[test]
-fn a_mark_counts_under_its_condition(rt: HostRuntime) -> Result<(), NoMemory> {
-    let backend = knowing(rt.alloc())?;
+/// Compares what the rename comes to under each condition.
+fn compare_renamed(
+    rt: &impl Abort,
+    alloc: Global,
+    backend: &BasicAttributeValidator,
+) -> Result<(), NoMemory> {
     for (condition, text) in &ROWS {
-        assert!(rt; renamed(rt.alloc(), &backend, condition)?.as_str() == *text);
+        assert!(rt; renamed(alloc, backend, condition)?.as_str() == *text);
     }
     Ok(())
+}
+
+#[test]
+fn a_mark_counts_under_its_condition(rt: HostRuntime) -> Result<(), NoMemory> {
+    let backend = with_traits(rt.alloc())?;
+    compare_renamed(&rt, rt.alloc(), &backend)
 }
 
 /// Lists that stand one within the other, how many times, what stands innermost, and what it comes to. No input nests deeper than 127
@@ -163,11 +163,20 @@ fn nests(
     Ok(renamed(alloc, backend, condition.as_str())?.as_str() == *text)
 }
 
-#[test]
-fn conditions_nest(rt: HostRuntime) -> Result<(), NoMemory> {
-    let backend = knowing(rt.alloc())?;
+/// Compares each row.
+fn compare_nested(
+    rt: &impl Abort,
+    alloc: Global,
+    backend: &BasicAttributeValidator,
+) -> Result<(), NoMemory> {
     for row in &NESTED {
-        assert!(rt; nests(rt.alloc(), &backend, row)?);
+        assert!(rt; nests(alloc, backend, row)?);
     }
     Ok(())
+}
+
+#[test]
+fn conditions_nest(rt: HostRuntime) -> Result<(), NoMemory> {
+    let backend = with_traits(rt.alloc())?;
+    compare_nested(&rt, rt.alloc(), &backend)
 }

@@ -1,11 +1,11 @@
 //! What is taken over, and what stands beside the marks: features, symbol names and notes.
 
 use super::notation::{declared, marked};
-use super::rendering::render;
-use super::{backend, names, supported};
-use bridge_decl::{AttrInheritContext, Items, NoMemory, Text};
-use hir_attrs::{Attrs, BasicAttributeValidator, ErrorStore, Pairs};
+use super::{backend, knowing, read_over, set_of, supported};
+use bridge_decl::{AttrInheritContext, Items, NoMemory};
+use hir_attrs::{Attrs, BasicAttributeValidator, Pairs};
 use std::alloc::Global;
+use std::process::Abort;
 
 /// How a set is taken over: as a whole, by a copy, or by what stands in the declaration.
 type Way = Option<AttrInheritContext>;
@@ -149,11 +149,22 @@ const ROWS: [(&str, Way, &str, &str); 37] = [
 ];
 
 /// A set that is taken over in that way.
-fn taken_over(alloc: Global, outer: Attrs, way: Way) -> Result<Attrs, NoMemory> {
+fn taken_over(alloc: Global, outer: &Attrs, way: Way) -> Result<Attrs, NoMemory> {
     match way {
         Some(context) => outer.for_inheritance(alloc, context),
         None => outer.try_clone(alloc),
     }
+}
+
+/// What the outer declaration hands on.
+fn handed_on(
+    alloc: Global,
+    backend: &BasicAttributeValidator,
+    outer: &bridge_decl::Attrs,
+    way: Way,
+) -> Result<Attrs, NoMemory> {
+    let outer = set_of(alloc, backend, outer)?;
+    taken_over(alloc, &outer, way)
 }
 
 /// What the inner declaration comes to, and which rules it breaks.
@@ -164,12 +175,8 @@ fn inner(
     way: Way,
     own: &bridge_decl::Attrs,
 ) -> Result<String, NoMemory> {
-    let mut errors = ErrorStore::new(alloc);
-    let outer = Attrs::from_ast(alloc, outer, backend, Attrs::empty(alloc), &mut errors)?;
-    let outer = taken_over(alloc, outer, way)?;
-    let mut errors = ErrorStore::new(alloc);
-    let attrs = Attrs::from_ast(alloc, own, backend, outer, &mut errors)?;
-    render(alloc, &attrs, errors.take_errors().as_slice())
+    let parent = handed_on(alloc, backend, outer, way)?;
+    read_over(alloc, backend, parent, own)
 }
 
 fn within(
@@ -184,14 +191,22 @@ fn within(
     inner(alloc, backend, &outer, way, &own)
 }
 
+/// Compares what each inner declaration comes to.
+fn compare_within(
+    rt: &impl Abort,
+    alloc: Global,
+    backend: &BasicAttributeValidator,
+) -> Result<(), NoMemory> {
+    for (outer, way, own, text) in &ROWS {
+        assert!(rt; within(alloc, backend, outer, *way, own)?.as_str() == *text);
+    }
+    Ok(())
+}
+
 #[test]
 fn some_marks_are_taken_over(rt: HostRuntime) -> Result<(), NoMemory> {
     let backend = backend(rt.alloc(), true)?;
-    for (outer, way, own, text) in &ROWS {
-        let found = within(rt.alloc(), &backend, outer, *way, own)?;
-        assert!(rt; found.as_str() == *text);
-    }
-    Ok(())
+    compare_within(&rt, rt.alloc(), &backend)
 }
 
 /// What stands beside the marks of the outer declaration, how its set is taken over, what stands beside those of the inner one, and
@@ -234,27 +249,24 @@ fn beside(
 
 /// The backend `cpp`, in which the features `v` and `u` are unstable.
 fn unstable(alloc: Global) -> Result<BasicAttributeValidator, NoMemory> {
-    let backend_name = Text::new(alloc, "cpp")?;
-    let other_backend_names = names(alloc, "")?;
-    let name_values = Pairs::new(alloc, Items::new(alloc))?;
-    let features_enabled = names(alloc, "")?;
-    let semver_unstable_features = names(alloc, "v u")?;
-    Ok(BasicAttributeValidator {
-        backend_name,
-        support: supported(true),
-        other_backend_names,
-        name_values,
-        features_enabled,
-        semver_unstable_features,
-    })
+    let none = Pairs::new(alloc, Items::new(alloc))?;
+    knowing(alloc, supported(true), none, ("", "", "v u"))
+}
+
+/// Compares what each inner declaration comes to.
+fn compare_beside(
+    rt: &impl Abort,
+    alloc: Global,
+    backend: &BasicAttributeValidator,
+) -> Result<(), NoMemory> {
+    for (outer, way, own, text) in &BESIDE {
+        assert!(rt; beside(alloc, backend, outer, *way, own)?.as_str() == *text);
+    }
+    Ok(())
 }
 
 #[test]
 fn what_stands_beside_marks_is_kept(rt: HostRuntime) -> Result<(), NoMemory> {
     let backend = unstable(rt.alloc())?;
-    for (outer, way, own, text) in &BESIDE {
-        let found = beside(rt.alloc(), &backend, outer, *way, own)?;
-        assert!(rt; found.as_str() == *text);
-    }
-    Ok(())
+    compare_beside(&rt, rt.alloc(), &backend)
 }

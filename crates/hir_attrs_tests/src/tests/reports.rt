@@ -1,10 +1,13 @@
 //! The reports of broken rules as they are printed, each at the place that was last set.
 
-use super::backend;
 use super::notation::{marked, texts};
+use super::{backend, set_of};
 use bridge_decl::{AttrInheritContext, NoMemory, Text};
-use hir_attrs::{Attrs, BackendAttrSupport, BasicAttributeValidator, ErrorStore, SupportFlag};
+use hir_attrs::{
+    Attrs, BackendAttrSupport, BasicAttributeValidator, ErrorStore, LoweringReport, SupportFlag,
+};
 use std::alloc::Global;
+use std::process::Abort;
 
 /// The marks of the module, an item and a method in it, the marks of the item or the method, and the reports.
 const ROWS: [(&str, &str, &str, &str, &str); 13] = [
@@ -101,13 +104,39 @@ const ROWS: [(&str, &str, &str, &str, &str); 13] = [
     ),
 ];
 
-/// The reports that the store holds, one after another.
-pub fn printed(alloc: Global, errors: &mut ErrorStore<'_>) -> Result<String, NoMemory> {
+/// Reports, one after another.
+fn printed_all(alloc: Global, reports: &[LoweringReport]) -> Result<String, NoMemory> {
     let mut text = String::new(alloc);
-    for report in errors.take_errors() {
+    for report in reports {
         text.push_str(report.to_string(alloc)?.as_str())?;
     }
     Ok(text)
+}
+
+/// The reports that the store holds.
+pub fn printed(alloc: Global, errors: &mut ErrorStore<'_>) -> Result<String, NoMemory> {
+    let reports = errors.take_errors();
+    printed_all(alloc, reports.as_slice())
+}
+
+/// What takes marks over: a method, or an item where there is none.
+fn context_of(method: &str) -> AttrInheritContext {
+    if method.is_empty() {
+        AttrInheritContext::OfType
+    } else {
+        AttrInheritContext::MethodOrImplFromModule
+    }
+}
+
+/// What is taken over of a declaration.
+fn handed_on(
+    alloc: Global,
+    backend: &BasicAttributeValidator,
+    declared: &bridge_decl::Attrs,
+    context: AttrInheritContext,
+) -> Result<Attrs, NoMemory> {
+    let attrs = set_of(alloc, backend, declared)?;
+    attrs.for_inheritance(alloc, context)
 }
 
 /// What an item or a method of a module with these marks takes over.
@@ -118,13 +147,7 @@ fn taken_over(
     method: &str,
 ) -> Result<Attrs, NoMemory> {
     let declared = marked(alloc, module)?;
-    let mut errors = ErrorStore::new(alloc);
-    let attrs = Attrs::from_ast(alloc, &declared, backend, Attrs::empty(alloc), &mut errors)?;
-    if method.is_empty() {
-        attrs.for_inheritance(alloc, AttrInheritContext::OfType)
-    } else {
-        attrs.for_inheritance(alloc, AttrInheritContext::MethodOrImplFromModule)
-    }
+    handed_on(alloc, backend, &declared, context_of(method))
 }
 
 fn set_place<'t>(errors: &mut ErrorStore<'t>, module: &'t [Text], item: &'t str, method: &'t str) {
@@ -135,21 +158,46 @@ fn set_place<'t>(errors: &mut ErrorStore<'t>, module: &'t [Text], item: &'t str,
     }
 }
 
+/// Reads marks.
+fn read_marks(
+    alloc: Global,
+    backend: &BasicAttributeValidator,
+    parent: Attrs,
+    declared: &bridge_decl::Attrs,
+    errors: &mut ErrorStore<'_>,
+) -> Result<(), NoMemory> {
+    let _attrs = Attrs::from_ast(alloc, declared, backend, parent, errors)?;
+    Ok(())
+}
+
+/// The reports of marks of an item or a method in a module.
+fn reports_in<'t>(
+    alloc: Global,
+    backend: &BasicAttributeValidator,
+    parent: Attrs,
+    (module, item, method): (&'t [Text], &'t str, &'t str),
+    declared: &bridge_decl::Attrs,
+) -> Result<String, NoMemory> {
+    let mut errors = ErrorStore::new(alloc);
+    set_place(&mut errors, module, item, method);
+    read_marks(alloc, backend, parent, declared, &mut errors)?;
+    printed(alloc, &mut errors)
+}
+
 /// The reports of marks of an item or a method in the module `m`.
 fn reports_of(
     alloc: Global,
     backend: &BasicAttributeValidator,
-    parent: Attrs,
     item: &str,
     method: &str,
+    outer: &str,
     marks: &str,
 ) -> Result<String, NoMemory> {
     let module = texts(alloc, "m")?;
     let declared = marked(alloc, marks)?;
-    let mut errors = ErrorStore::new(alloc);
-    set_place(&mut errors, module.as_slice(), item, method);
-    let _attrs = Attrs::from_ast(alloc, &declared, backend, parent, &mut errors)?;
-    printed(alloc, &mut errors)
+    let parent = taken_over(alloc, backend, outer, method)?;
+    let place = (module.as_slice(), item, method);
+    reports_in(alloc, backend, parent, place, &declared)
 }
 
 /// Whether the row's marks have its reports.
@@ -158,8 +206,19 @@ fn are_reported(
     backend: &BasicAttributeValidator,
     (outer, item, method, marks, text): &(&str, &str, &str, &str, &str),
 ) -> Result<bool, NoMemory> {
-    let parent = taken_over(alloc, backend, outer, method)?;
-    Ok(reports_of(alloc, backend, parent, item, method, marks)?.as_str() == *text)
+    Ok(reports_of(alloc, backend, item, method, outer, marks)?.as_str() == *text)
+}
+
+/// Compares the reports of each row.
+fn compare_reported(
+    rt: &impl Abort,
+    alloc: Global,
+    backend: &BasicAttributeValidator,
+) -> Result<(), NoMemory> {
+    for row in &ROWS {
+        assert!(rt; are_reported(alloc, backend, row)?);
+    }
+    Ok(())
 }
 
 /// The backend supports defaults of parameters alone.
@@ -167,8 +226,5 @@ fn are_reported(
 fn rules_are_told_where_they_are_broken(rt: HostRuntime) -> Result<(), NoMemory> {
     let mut backend = backend(rt.alloc(), false)?;
     backend.support = BackendAttrSupport::none().with(SupportFlag::DefaultArgs);
-    for row in &ROWS {
-        assert!(rt; are_reported(rt.alloc(), &backend, row)?);
-    }
-    Ok(())
+    compare_reported(&rt, rt.alloc(), &backend)
 }

@@ -59,10 +59,16 @@ fn found(alloc: Global, name: &str, meta: &Meta) -> Result<String, NoMemory> {
     Ok(text)
 }
 
+/// That with one of the arguments.
+fn with_argument(alloc: Global, name: &str, argument: &str) -> Result<String, NoMemory> {
+    let meta = meta(alloc, argument)?;
+    found(alloc, name, &meta)
+}
+
 fn with_all(alloc: Global, name: &str) -> Result<String, NoMemory> {
     let mut cells = Vec::new(alloc);
     for argument in &ARGUMENTS {
-        cells.push(found(alloc, name, &meta(alloc, argument)?)?)?;
+        cells.push(with_argument(alloc, name, argument)?)?;
     }
     row(alloc, cells.as_slice())
 }

@@ -1,7 +1,7 @@
 //! Marks where the backend doesn't support them.
 
 use super::rows::row;
-use super::{backend, read};
+use super::{backend, compare_for, read};
 use bridge_decl::NoMemory;
 use hir_attrs::{BackendAttrSupport, BasicAttributeValidator, SupportFlag};
 use std::alloc::Global;
@@ -194,16 +194,27 @@ fn a_mark_needs_its_flag(rt: HostRuntime) -> Result<(), NoMemory> {
     Ok(())
 }
 
+/// Whether a mark comes to these texts under `*` and under `auto`.
+fn comes_to(
+    alloc: Global,
+    backend: &BasicAttributeValidator,
+    mark: &str,
+    taken: &str,
+    by_auto: &str,
+) -> Result<bool, NoMemory> {
+    Ok(
+        under(alloc, backend, "*", mark)?.as_str() == taken
+            && under(alloc, backend, "auto", mark)?.as_str() == by_auto,
+    )
+}
+
 /// Whether the mark comes to what the row says with its flag alone, under `*` and under `auto`.
 fn is_taken(
     alloc: Global,
     (mark, flag, _denied, taken, by_auto): &Flagged,
 ) -> Result<bool, NoMemory> {
     let backend = supporting(alloc, BackendAttrSupport::none().with(*flag))?;
-    Ok(
-        under(alloc, &backend, "*", mark)?.as_str() == *taken
-            && under(alloc, &backend, "auto", mark)?.as_str() == *by_auto,
-    )
+    comes_to(alloc, &backend, mark, taken, by_auto)
 }
 
 #[test]
@@ -255,10 +266,7 @@ const UNFLAGGED: [(&str, &str); 28] = [
 #[test]
 fn some_marks_need_no_flag(rt: HostRuntime) -> Result<(), NoMemory> {
     let backend = backend(rt.alloc(), false)?;
-    for (marks, text) in &UNFLAGGED {
-        assert!(rt; read(rt.alloc(), &backend, marks)?.as_str() == *text);
-    }
-    Ok(())
+    compare_for(&rt, rt.alloc(), &backend, &UNFLAGGED)
 }
 
 /// The texts that ask for a flag and are no marks.
@@ -314,7 +322,20 @@ fn breaks(
     }
 }
 
-/// Tests that each key breaks that rule.
+/// Tests that each key breaks that rule for a backend.
+fn compare_broken(
+    rt: &impl Abort,
+    alloc: Global,
+    backend: &BasicAttributeValidator,
+    ends: (&str, &str),
+) -> Result<(), NoMemory> {
+    for key in &KEYS {
+        assert!(rt; breaks(alloc, backend, key, ends)?);
+    }
+    Ok(())
+}
+
+/// The same for a backend that supports everything or nothing.
 fn compare_keys(
     rt: &impl Abort,
     alloc: Global,
@@ -322,10 +343,7 @@ fn compare_keys(
     ends: (&str, &str),
 ) -> Result<(), NoMemory> {
     let backend = backend(alloc, is_able)?;
-    for key in &KEYS {
-        assert!(rt; breaks(alloc, &backend, key, ends)?);
-    }
-    Ok(())
+    compare_broken(rt, alloc, &backend, ends)
 }
 
 #[test]
@@ -338,11 +356,20 @@ fn names_of_flags_are_denied(rt: HostRuntime) -> Result<(), NoMemory> {
     compare_keys(&rt, rt.alloc(), false, ("!MarkUnsupported(", " cpp)"))
 }
 
+/// Tests that nothing comes of each key under `auto`.
+fn compare_spared(
+    rt: &impl Abort,
+    alloc: Global,
+    backend: &BasicAttributeValidator,
+) -> Result<(), NoMemory> {
+    for key in &KEYS {
+        assert!(rt; under(alloc, backend, "auto", key)?.as_str() == "-");
+    }
+    Ok(())
+}
+
 #[test]
 fn denied_names_are_spared_under_auto(rt: HostRuntime) -> Result<(), NoMemory> {
     let backend = backend(rt.alloc(), false)?;
-    for key in &KEYS {
-        assert!(rt; under(rt.alloc(), &backend, "auto", key)?.as_str() == "-");
-    }
-    Ok(())
+    compare_spared(&rt, rt.alloc(), &backend)
 }
