@@ -88,6 +88,15 @@ pub enum Key {
     Of,
 }
 
+/// The text of a key, of keys that stand before their texts.
+macro_rules! texts {
+    ($key:ident { $($name:ident $text:literal),* $(,)? }) => {
+        match $key {
+            $(Key::$name => $text,)*
+        }
+    };
+}
+
 #[tactic(auto, unfolding(crate::specs::Keys::key_text))]
 impl Key {
     /// The key as it is written.
@@ -96,87 +105,25 @@ impl Key {
     pub fn text(self) -> &'static str
         ensures { result.now ≡ key_text self }
     {
-        match self {
-            Key::Root => "root",
-            Key::Backend => "backend",
-            Key::Config => "config",
-            Key::Docs => "docs",
-            Key::Name => "name",
-            Key::Attrs => "attrs",
-            Key::Items => "items",
-            Key::Aliases => "aliases",
-            Key::Modules => "modules",
-            Key::Target => "target",
-            Key::Kind => "kind",
-            Key::Lifetimes => "lifetimes",
-            Key::Fields => "fields",
-            Key::Methods => "methods",
-            Key::Ty => "ty",
-            Key::Mutable => "mutable",
-            Key::DtorAbiName => "dtor_abi_name",
-            Key::Variants => "variants",
-            Key::Discriminant => "discriminant",
-            Key::Itself => "self",
-            Key::Reference => "reference",
-            Key::Path => "path",
-            Key::Params => "params",
-            Key::Ret => "ret",
-            Key::IsSend => "is_send",
-            Key::IsSync => "is_sync",
-            Key::AbiName => "abi_name",
-            Key::SelfType => "self_type",
-            Key::Longer => "longer",
-            Key::Shorter => "shorter",
-            Key::Lifetime => "lifetime",
-            Key::Segments => "segments",
-            Key::Features => "features",
-            Key::Marks => "marks",
-            Key::Condition => "if",
-            Key::Mark => "mark",
-            Key::Value => "value",
-            Key::List => "list",
-            Key::AbiRename => "abi_rename",
-            Key::Deprecated => "deprecated",
-            Key::Blocks => "blocks",
-            Key::Links => "links",
-            Key::Lines => "lines",
-            Key::Display => "display",
-            Key::OtherNames => "other_names",
-            Key::Supports => "supports",
-            Key::Pairs => "pairs",
-            Key::Unstable => "unstable",
-            Key::UnsafeReferences => "unsafe_references_in_callbacks",
-            Key::Default => "default",
-            Key::Bases => "bases",
-            Key::Pair => "pair",
-            Key::Not => "not",
-            Key::Any => "any",
-            Key::All => "all",
-            Key::Bool => "bool",
-            Key::Char => "char",
-            Key::Byte => "byte",
-            Key::Int => "int",
-            Key::Float => "float",
-            Key::Str => "str",
-            Key::Named => "named",
-            Key::ImplTrait => "impl",
-            Key::Ref => "ref",
-            Key::Boxed => "box",
-            Key::StdOption => "option",
-            Key::DiplomatOption => "diplomat_option",
-            Key::StdResult => "result",
-            Key::DiplomatResult => "diplomat_result",
-            Key::Write => "write",
-            Key::Strs => "strs",
-            Key::Slice => "slice",
-            Key::CustomSlice => "custom_slice",
-            Key::Callback => "fn",
-            Key::To => "to",
-            Key::OkType => "ok",
-            Key::ErrType => "err",
-            Key::Encoding => "encoding",
-            Key::Std => "std",
-            Key::Of => "of",
-        }
+        texts!(self {
+            Root "root", Backend "backend", Config "config", Docs "docs", Name "name",
+            Attrs "attrs", Items "items", Aliases "aliases", Modules "modules", Target "target",
+            Kind "kind", Lifetimes "lifetimes", Fields "fields", Methods "methods", Ty "ty",
+            Mutable "mutable", DtorAbiName "dtor_abi_name", Variants "variants",
+            Discriminant "discriminant", Itself "self", Reference "reference", Path "path",
+            Params "params", Ret "ret", IsSend "is_send", IsSync "is_sync", AbiName "abi_name",
+            SelfType "self_type", Longer "longer", Shorter "shorter", Lifetime "lifetime",
+            Segments "segments", Features "features", Marks "marks", Condition "if", Mark "mark",
+            Value "value", List "list", AbiRename "abi_rename", Deprecated "deprecated",
+            Blocks "blocks", Links "links", Lines "lines", Display "display",
+            OtherNames "other_names", Supports "supports", Pairs "pairs", Unstable "unstable",
+            UnsafeReferences "unsafe_references_in_callbacks", Default "default", Bases "bases",
+            Pair "pair", Not "not", Any "any", All "all", Bool "bool", Char "char", Byte "byte",
+            Int "int", Float "float", Str "str", Named "named", ImplTrait "impl", Ref "ref",
+            Boxed "box", StdOption "option", DiplomatOption "diplomat_option", StdResult "result",
+            DiplomatResult "diplomat_result", Write "write", Strs "strs", Slice "slice",
+            CustomSlice "custom_slice", Callback "fn", To "to", OkType "ok", ErrType "err",
+            Encoding "encoding", Std "std", Of "of",
+        })
     }
 }

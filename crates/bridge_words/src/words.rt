@@ -23,6 +23,13 @@ pub trait Word: Copy + 'static {
         ensures { all_written result.now ≡ words };
 }
 
+/// The words of values of a type, with their values.
+macro_rules! words {
+    ($values:ident { $($value:ident $word:literal),* $(,)? }) => {
+        &[$(($word, $values::$value)),*]
+    };
+}
+
 /// The value for which a word stands.
 #[tactic(auto, using(crate::proofs::WordLemmas::found_here, crate::proofs::WordLemmas::none_next))]
 pub fn find_word<W: Word>(name: &str) -> Option<W>
@@ -53,25 +60,11 @@ impl Word for PrimitiveType {
     ghost words = { primitive_words };
 
     fn words() -> &'static [(&'static str, PrimitiveType)] {
-        &[
-            ("i8", PrimitiveType::i8),
-            ("u8", PrimitiveType::u8),
-            ("i16", PrimitiveType::i16),
-            ("u16", PrimitiveType::u16),
-            ("i32", PrimitiveType::i32),
-            ("u32", PrimitiveType::u32),
-            ("i64", PrimitiveType::i64),
-            ("u64", PrimitiveType::u64),
-            ("isize", PrimitiveType::isize),
-            ("usize", PrimitiveType::usize),
-            ("i128", PrimitiveType::i128),
-            ("u128", PrimitiveType::u128),
-            ("f32", PrimitiveType::f32),
-            ("f64", PrimitiveType::f64),
-            ("bool", PrimitiveType::bool),
-            ("char", PrimitiveType::char),
-            ("byte", PrimitiveType::byte),
-        ]
+        words!(PrimitiveType {
+            i8 "i8", u8 "u8", i16 "i16", u16 "u16", i32 "i32", u32 "u32", i64 "i64", u64 "u64",
+            isize "isize", usize "usize", i128 "i128", u128 "u128", f32 "f32", f64 "f64",
+            bool "bool", char "char", byte "byte",
+        })
     }
 }
 
@@ -82,11 +75,9 @@ impl Word for StringEncoding {
     ghost words = { encoding_words };
 
     fn words() -> &'static [(&'static str, StringEncoding)] {
-        &[
-            ("utf8", StringEncoding::Utf8),
-            ("unvalidated_utf8", StringEncoding::UnvalidatedUtf8),
-            ("unvalidated_utf16", StringEncoding::UnvalidatedUtf16),
-        ]
+        words!(StringEncoding {
+            Utf8 "utf8", UnvalidatedUtf8 "unvalidated_utf8", UnvalidatedUtf16 "unvalidated_utf16",
+        })
     }
 }
 
@@ -97,39 +88,18 @@ impl Word for DocType {
     ghost words = { doc_words };
 
     fn words() -> &'static [(&'static str, DocType)] {
-        &[
-            ("Struct", DocType::Struct),
-            ("StructField", DocType::StructField),
-            ("Enum", DocType::Enum),
-            ("EnumVariant", DocType::EnumVariant),
-            ("EnumVariantField", DocType::EnumVariantField),
-            ("Trait", DocType::Trait),
-            ("FnInStruct", DocType::FnInStruct),
-            ("FnInTypedef", DocType::FnInTypedef),
-            ("FnInEnum", DocType::FnInEnum),
-            ("FnInTrait", DocType::FnInTrait),
-            ("DefaultFnInTrait", DocType::DefaultFnInTrait),
-            ("Fn", DocType::Fn),
-            ("Mod", DocType::Mod),
-            ("Constant", DocType::Constant),
-            (
-                "AssociatedConstantInEnum",
-                DocType::AssociatedConstantInEnum,
-            ),
-            (
-                "AssociatedConstantInTrait",
-                DocType::AssociatedConstantInTrait,
-            ),
-            (
-                "AssociatedConstantInStruct",
-                DocType::AssociatedConstantInStruct,
-            ),
-            ("Macro", DocType::Macro),
-            ("AssociatedTypeInEnum", DocType::AssociatedTypeInEnum),
-            ("AssociatedTypeInTrait", DocType::AssociatedTypeInTrait),
-            ("AssociatedTypeInStruct", DocType::AssociatedTypeInStruct),
-            ("Typedef", DocType::Typedef),
-        ]
+        words!(DocType {
+            Struct "Struct", StructField "StructField", Enum "Enum", EnumVariant "EnumVariant",
+            EnumVariantField "EnumVariantField", Trait "Trait", FnInStruct "FnInStruct",
+            FnInTypedef "FnInTypedef", FnInEnum "FnInEnum", FnInTrait "FnInTrait",
+            DefaultFnInTrait "DefaultFnInTrait", Fn "Fn", Mod "Mod", Constant "Constant",
+            AssociatedConstantInEnum "AssociatedConstantInEnum",
+            AssociatedConstantInTrait "AssociatedConstantInTrait",
+            AssociatedConstantInStruct "AssociatedConstantInStruct", Macro "Macro",
+            AssociatedTypeInEnum "AssociatedTypeInEnum",
+            AssociatedTypeInTrait "AssociatedTypeInTrait",
+            AssociatedTypeInStruct "AssociatedTypeInStruct", Typedef "Typedef",
+        })
     }
 }
 
@@ -140,11 +110,9 @@ impl Word for RustLinkDisplay {
     ghost words = { display_words };
 
     fn words() -> &'static [(&'static str, RustLinkDisplay)] {
-        &[
-            ("normal", RustLinkDisplay::Normal),
-            ("compact", RustLinkDisplay::Compact),
-            ("hidden", RustLinkDisplay::Hidden),
-        ]
+        words!(RustLinkDisplay {
+            Normal "normal", Compact "compact", Hidden "hidden",
+        })
     }
 }
 
@@ -166,13 +134,9 @@ impl Word for ItemKind {
     ghost words = { item_kind_words };
 
     fn words() -> &'static [(&'static str, ItemKind)] {
-        &[
-            ("struct", ItemKind::Struct),
-            ("out_struct", ItemKind::OutStruct),
-            ("opaque", ItemKind::Opaque),
-            ("enum", ItemKind::Enum),
-            ("trait", ItemKind::Trait),
-            ("function", ItemKind::Function),
-        ]
+        words!(ItemKind {
+            Struct "struct", OutStruct "out_struct", Opaque "opaque", Enum "enum", Trait "trait",
+            Function "function",
+        })
     }
 }
