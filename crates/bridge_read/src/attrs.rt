@@ -5,37 +5,29 @@ ghost use Rattle.std.specs.Str.{all_ascii_digits};
 ghost use Rattle.serde_json.specs.View.{view};
 ghost use Rattle.bridge_form.specs.Reading.{list_of};
 ghost use Rattle.bridge_form.specs.Given.{Gives};
-ghost use Rattle.bridge_read.specs.forms.Attrs.{condition_called, condition_keys, condition_under, condition_within, condition_word, argument_of, digits, literal_called, literal_keys, literal_under, literal_word, no_attrs, sole_char};
+ghost use Rattle.bridge_read.specs.forms.Attrs.{condition_keys, condition_under, condition_within, condition_word, argument_of, digits, literal_called, literal_keys, literal_under, literal_word, no_attrs, sole_char};
 
-use crate::reading::{FromForm, held, listed, needed, needed_some, optional, room_for, two};
+use crate::reading::{
+    FromForm, held, listed, needed, needed_some, optional, read_object, room_for, two,
+};
 use bridge_ast::{
     Assign, Attrs, Boxed, DiplomatBackendAttr, DiplomatBackendAttrCfg, Items, Lit, Meta, MetaValue,
     RenameAttr, RenameFault, Text,
 };
-use bridge_form::{Fields, Key, ReadFault, entries, in_entry, in_member, sole, text};
+use bridge_form::{Key, ReadFault, entries, in_entry, in_member, sole, text};
 use serde_json::Value;
 use std::alloc::Global;
 
-/// The condition for which a word stands: `*` or `auto`.
-#[tactic(auto, unfolding(crate::specs::forms::Attrs::condition_called))]
-fn condition_called(word: &str) -> Option<DiplomatBackendAttrCfg>
-    ensures { result ≡ condition_called word.now }
-{
-    if word == "*" {
-        Some(DiplomatBackendAttrCfg::Star)
-    } else if word == "auto" {
-        Some(DiplomatBackendAttrCfg::Auto)
-    } else {
-        None
-    }
-}
-
-/// A condition for which a word stands.
-#[tactic(auto, unfolding(crate::specs::forms::Attrs::condition_word))]
+/// A condition for which a word stands: `*` or `auto`.
+#[tactic(auto, unfolding(crate::specs::forms::Attrs::condition_word, crate::specs::forms::Attrs::condition_called))]
 fn condition_word(alloc: Global, value: &Value) -> Result<DiplomatBackendAttrCfg, ReadFault>
     ensures { Gives result (condition_word.read (view value.now)) }
 {
-    condition_called(text(alloc, value)?).ok_or(ReadFault::wrong_form(alloc))
+    match text(alloc, value)? {
+        "*" => Ok(DiplomatBackendAttrCfg::Star),
+        "auto" => Ok(DiplomatBackendAttrCfg::Auto),
+        _ => Err(ReadFault::wrong_form(alloc)),
+    }
 }
 
 /// The conditions of a list.
@@ -175,10 +167,10 @@ fn literal_under(alloc: Global, key: Key, value: Value) -> Result<Lit, ReadFault
 {
     match key {
         Key::Bool => Ok(Lit::Bool(bool::from_form(alloc, value)?)),
-        Key::Char => match sole_char(text(alloc, &value)?) {
-            Some(char) => Ok(Lit::Char(char)),
-            None => Err(ReadFault::wrong_form(alloc)),
-        },
+        Key::Char => {
+            let char = sole_char(text(alloc, &value)?);
+            Ok(Lit::Char(char.ok_or(ReadFault::wrong_form(alloc))?))
+        }
         Key::Byte => Ok(Lit::Byte(u8::from_form(alloc, value)?)),
         Key::Int => Ok(Lit::Int(digits(alloc, value)?)),
         Key::Float => {
@@ -226,11 +218,10 @@ impl FromForm for Assign {
     ghost form = { assign.read };
 
     fn from_form(alloc: Global, value: Value) -> Result<Assign, ReadFault> {
-        let mut left = Fields::of(alloc, value, &[Key::Name, Key::Value])?;
-        Ok(Assign {
-            name: needed(alloc, &mut left)?,
-            value: needed(alloc, &mut left)?,
-        })
+        read_object!(alloc, value, left, {
+            Name => name = needed(alloc, &mut left)?;
+            Value => value = needed(alloc, &mut left)?;
+        } Ok(Assign { name, value }))
     }
 }
 
@@ -253,22 +244,15 @@ impl FromForm for DiplomatBackendAttr {
     ghost form = { mark.read };
 
     fn from_form(alloc: Global, value: Value) -> Result<DiplomatBackendAttr, ReadFault> {
-        let mut left = Fields::of(
-            alloc,
-            value,
-            &[Key::Condition, Key::Mark, Key::Value, Key::List],
-        )?;
-        let cfg = needed(alloc, &mut left)?;
-        let path = needed_some(alloc, &mut left)?;
-        let literal = optional(alloc, &mut left)?;
-        let assigns = optional(alloc, &mut left)?;
-        match argument_of(literal, assigns) {
-            Some(value) => Ok(DiplomatBackendAttr {
-                cfg,
-                meta: Meta { path, value },
-            }),
+        read_object!(alloc, value, left, {
+            Condition => cfg = needed(alloc, &mut left)?;
+            Mark => path = needed_some(alloc, &mut left)?;
+            Value => literal = optional(alloc, &mut left)?;
+            List => assigns = optional(alloc, &mut left)?;
+        } match argument_of(literal, assigns) {
+            Some(value) => Ok(DiplomatBackendAttr { cfg, meta: Meta { path, value } }),
             None => Err(ReadFault::wrong_form(alloc)),
-        }
+        })
     }
 }
 
@@ -294,17 +278,12 @@ impl FromForm for Attrs {
     ghost form = { attrs.read };
 
     fn from_form(alloc: Global, value: Value) -> Result<Attrs, ReadFault> {
-        let mut left = Fields::of(
-            alloc,
-            value,
-            &[Key::Features, Key::Marks, Key::AbiRename, Key::Deprecated],
-        )?;
-        Ok(Attrs {
-            features: listed(alloc, &mut left)?,
-            marks: listed(alloc, &mut left)?,
-            abi_rename: held(alloc, &mut left, RenameAttr::empty())?,
-            deprecated: optional(alloc, &mut left)?,
-        })
+        read_object!(alloc, value, left, {
+            Features => features = listed(alloc, &mut left)?;
+            Marks => marks = listed(alloc, &mut left)?;
+            AbiRename => abi_rename = held(alloc, &mut left, RenameAttr::empty())?;
+            Deprecated => deprecated = optional(alloc, &mut left)?;
+        } Ok(Attrs { features, marks, abi_rename, deprecated }))
     }
 }
 

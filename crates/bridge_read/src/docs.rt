@@ -9,7 +9,7 @@ ghost use Rattle.bridge_form.specs.Left.{IsLeft};
 ghost use Rattle.bridge_read.specs.inside.Taking.{Takes};
 
 use crate::attrs::no_attrs;
-use crate::reading::{FromForm, held, listed, needed, needed_word};
+use crate::reading::{FromForm, held, listed, needed, needed_word, read_object};
 use bridge_ast::{Attrs, DocBlock, Docs, Items, RustLink};
 use bridge_form::{Fields, Key, ReadFault};
 use serde_json::Value;
@@ -22,11 +22,10 @@ impl FromForm for DocBlock {
     ghost form = { block.read };
 
     fn from_form(alloc: Global, value: Value) -> Result<DocBlock, ReadFault> {
-        let mut left = Fields::of(alloc, value, &[Key::Condition, Key::Lines])?;
-        Ok(DocBlock {
-            cfg: needed(alloc, &mut left)?,
-            lines: needed(alloc, &mut left)?,
-        })
+        read_object!(alloc, value, left, {
+            Condition => cfg = needed(alloc, &mut left)?;
+            Lines => lines = needed(alloc, &mut left)?;
+        } Ok(DocBlock { cfg, lines }))
     }
 }
 
@@ -37,12 +36,11 @@ impl FromForm for RustLink {
     ghost form = { link.read };
 
     fn from_form(alloc: Global, value: Value) -> Result<RustLink, ReadFault> {
-        let mut left = Fields::of(alloc, value, &[Key::Path, Key::Kind, Key::Display])?;
-        Ok(RustLink {
-            path: needed(alloc, &mut left)?,
-            typ: needed_word(alloc, &mut left)?,
-            display: needed_word(alloc, &mut left)?,
-        })
+        read_object!(alloc, value, left, {
+            Path => path = needed(alloc, &mut left)?;
+            Kind => typ = needed_word(alloc, &mut left)?;
+            Display => display = needed_word(alloc, &mut left)?;
+        } Ok(RustLink { path, typ, display }))
     }
 }
 
@@ -53,11 +51,10 @@ impl FromForm for Docs {
     ghost form = { docs.read };
 
     fn from_form(alloc: Global, value: Value) -> Result<Docs, ReadFault> {
-        let mut left = Fields::of(alloc, value, &[Key::Blocks, Key::Links])?;
-        Ok(Docs {
-            blocks: listed(alloc, &mut left)?,
-            links: listed(alloc, &mut left)?,
-        })
+        read_object!(alloc, value, left, {
+            Blocks => blocks = listed(alloc, &mut left)?;
+            Links => links = listed(alloc, &mut left)?;
+        } Ok(Docs { blocks, links }))
     }
 }
 

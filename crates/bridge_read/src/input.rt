@@ -21,9 +21,9 @@ ghost use Rattle.bridge_read.specs.forms.Inputs.{no_backend, whole};
 ghost use Rattle.bridge_read.specs.inside.Answers.{GivesEnv, GivesForm, IsNoJson};
 
 use crate::modules::ModuleList;
-use crate::reading::{FromForm, held, needed};
+use crate::reading::{FromForm, held, needed, read_object};
 use bridge_ast::{Env, EnvFault, EnvFaultKind, EnvPlace, NoMemory, Text};
-use bridge_form::{Fields, InputKind, Key, Pointer, ReadFault};
+use bridge_form::{InputKind, Pointer, ReadFault};
 use bridge_pointers::place_pointer;
 use hir_backends::BasicAttributeValidator;
 use hir_config::LoweringConfig;
@@ -93,17 +93,12 @@ impl FromForm for Declared {
     ghost form = { whole.read };
 
     fn from_form(alloc: Global, value: Value) -> Result<Declared, ReadFault> {
-        let mut left = Fields::of(
-            alloc,
-            value,
-            &[Key::Root, Key::Backend, Key::Config, Key::Docs],
-        )?;
-        Ok(Declared {
-            modules: needed(alloc, &mut left)?,
-            validator: held(alloc, &mut left, no_backend(alloc)?)?,
-            config: held(alloc, &mut left, LoweringConfig::default())?,
-            urls: held(alloc, &mut left, DocsUrlGenerator::new(alloc))?,
-        })
+        read_object!(alloc, value, left, {
+            Root => modules = needed(alloc, &mut left)?;
+            Backend => validator = held(alloc, &mut left, no_backend(alloc)?)?;
+            Config => config = held(alloc, &mut left, LoweringConfig::default())?;
+            Docs => urls = held(alloc, &mut left, DocsUrlGenerator::new(alloc))?;
+        } Ok(Declared { modules, validator, config, urls }))
     }
 }
 

@@ -10,9 +10,9 @@ ghost use Rattle.bridge_read.specs.forms.Items.{struct_parts, opaque_parts, enum
 use crate::docs::documented;
 use crate::lifetimes::mutability;
 use crate::methods::{or_name, signed};
-use crate::reading::{FromForm, flag, listed, needed, optional};
+use crate::reading::{FromForm, flag, listed, needed, optional, read_object};
 use bridge_ast::{Enum, Field, Function, Item, LifetimeEnv, OpaqueType, Struct, Trait, Variant};
-use bridge_form::{Fields, Key, ReadFault, in_member, object, under};
+use bridge_form::{Key, ReadFault, in_member, object, under};
 use bridge_words::{ItemKind, one_word};
 use serde_json::Value;
 use std::alloc::Global;
@@ -24,16 +24,11 @@ impl FromForm for Field {
     ghost form = { field.read };
 
     fn from_form(alloc: Global, value: Value) -> Result<Field, ReadFault> {
-        let mut left = Fields::of(alloc, value, &[Key::Name, Key::Ty, Key::Docs, Key::Attrs])?;
-        let name = needed(alloc, &mut left)?;
-        let ty = needed(alloc, &mut left)?;
-        let (docs, attrs) = documented(alloc, &mut left)?;
-        Ok(Field {
-            name,
-            ty,
-            docs,
-            attrs,
-        })
+        read_object!(alloc, value, left, {
+            Name => name = needed(alloc, &mut left)?;
+            Ty => ty = needed(alloc, &mut left)?;
+            Docs Attrs => (docs, attrs) = documented(alloc, &mut left)?;
+        } Ok(Field { name, ty, docs, attrs }))
     }
 }
 
@@ -44,20 +39,11 @@ impl FromForm for Variant {
     ghost form = { variant.read };
 
     fn from_form(alloc: Global, value: Value) -> Result<Variant, ReadFault> {
-        let mut left = Fields::of(
-            alloc,
-            value,
-            &[Key::Name, Key::Discriminant, Key::Docs, Key::Attrs],
-        )?;
-        let name = needed(alloc, &mut left)?;
-        let discriminant = needed(alloc, &mut left)?;
-        let (docs, attrs) = documented(alloc, &mut left)?;
-        Ok(Variant {
-            name,
-            discriminant,
-            docs,
-            attrs,
-        })
+        read_object!(alloc, value, left, {
+            Name => name = needed(alloc, &mut left)?;
+            Discriminant => discriminant = needed(alloc, &mut left)?;
+            Docs Attrs => (docs, attrs) = documented(alloc, &mut left)?;
+        } Ok(Variant { name, discriminant, docs, attrs }))
     }
 }
 
@@ -66,34 +52,17 @@ impl FromForm for Variant {
 fn struct_item(alloc: Global, value: Value, output_only: bool) -> Result<Item, ReadFault>
     ensures { Gives result ((object_with (struct_parts output_only)).read (view value)) }
 {
-    let mut left = Fields::of(
-        alloc,
-        value,
-        &[
-            Key::Kind,
-            Key::Name,
-            Key::Lifetimes,
-            Key::Fields,
-            Key::Methods,
-            Key::Docs,
-            Key::Attrs,
-        ],
-    )?;
-    left.next();
-    let name = needed(alloc, &mut left)?;
-    let nodes = listed(alloc, &mut left)?;
-    let fields = listed(alloc, &mut left)?;
-    let methods = listed(alloc, &mut left)?;
-    let (docs, attrs) = documented(alloc, &mut left)?;
-    Ok(Item::Struct(Struct {
-        name,
-        lifetimes: LifetimeEnv { nodes },
-        fields,
-        methods,
-        output_only,
-        docs,
-        attrs,
-    }))
+    read_object!(alloc, value, left, {
+        Kind => _ = left.next();
+        Name => name = needed(alloc, &mut left)?;
+        Lifetimes => nodes = listed(alloc, &mut left)?;
+        Fields => fields = listed(alloc, &mut left)?;
+        Methods => methods = listed(alloc, &mut left)?;
+        Docs Attrs => (docs, attrs) = documented(alloc, &mut left)?;
+    } {
+        let lifetimes = LifetimeEnv { nodes };
+        Ok(Item::Struct(Struct { name, lifetimes, fields, methods, output_only, docs, attrs }))
+    })
 }
 
 /// An opaque.
@@ -101,36 +70,20 @@ fn struct_item(alloc: Global, value: Value, output_only: bool) -> Result<Item, R
 fn opaque(alloc: Global, value: Value) -> Result<Item, ReadFault>
     ensures { Gives result ((object_with opaque_parts).read (view value)) }
 {
-    let mut left = Fields::of(
-        alloc,
-        value,
-        &[
-            Key::Kind,
-            Key::Name,
-            Key::Lifetimes,
-            Key::Mutable,
-            Key::Methods,
-            Key::DtorAbiName,
-            Key::Docs,
-            Key::Attrs,
-        ],
-    )?;
-    left.next();
-    let name = needed(alloc, &mut left)?;
-    let nodes = listed(alloc, &mut left)?;
-    let mutable = flag(alloc, &mut left)?;
-    let methods = listed(alloc, &mut left)?;
-    let dtor_abi_name = or_name(alloc, &name, optional(alloc, &mut left)?)?;
-    let (docs, attrs) = documented(alloc, &mut left)?;
-    Ok(Item::Opaque(OpaqueType {
-        dtor_abi_name,
-        name,
-        lifetimes: LifetimeEnv { nodes },
-        mutability: mutability(mutable),
-        methods,
-        docs,
-        attrs,
-    }))
+    read_object!(alloc, value, left, {
+        Kind => _ = left.next();
+        Name => name = needed(alloc, &mut left)?;
+        Lifetimes => nodes = listed(alloc, &mut left)?;
+        Mutable => mutable = flag(alloc, &mut left)?;
+        Methods => methods = listed(alloc, &mut left)?;
+        DtorAbiName => dtor_abi_name = or_name(alloc, &name, optional(alloc, &mut left)?)?;
+        Docs Attrs => (docs, attrs) = documented(alloc, &mut left)?;
+    } {
+        let (lifetimes, mutability) = (LifetimeEnv { nodes }, mutability(mutable));
+        Ok(Item::Opaque(OpaqueType {
+            dtor_abi_name, name, lifetimes, mutability, methods, docs, attrs,
+        }))
+    })
 }
 
 /// An enum.
@@ -138,30 +91,13 @@ fn opaque(alloc: Global, value: Value) -> Result<Item, ReadFault>
 fn enum_item(alloc: Global, value: Value) -> Result<Item, ReadFault>
     ensures { Gives result ((object_with enum_parts).read (view value)) }
 {
-    let mut left = Fields::of(
-        alloc,
-        value,
-        &[
-            Key::Kind,
-            Key::Name,
-            Key::Variants,
-            Key::Methods,
-            Key::Docs,
-            Key::Attrs,
-        ],
-    )?;
-    left.next();
-    let name = needed(alloc, &mut left)?;
-    let variants = listed(alloc, &mut left)?;
-    let methods = listed(alloc, &mut left)?;
-    let (docs, attrs) = documented(alloc, &mut left)?;
-    Ok(Item::Enum(Enum {
-        name,
-        variants,
-        methods,
-        docs,
-        attrs,
-    }))
+    read_object!(alloc, value, left, {
+        Kind => _ = left.next();
+        Name => name = needed(alloc, &mut left)?;
+        Variants => variants = listed(alloc, &mut left)?;
+        Methods => methods = listed(alloc, &mut left)?;
+        Docs Attrs => (docs, attrs) = documented(alloc, &mut left)?;
+    } Ok(Item::Enum(Enum { name, variants, methods, docs, attrs })))
 }
 
 /// A trait.
@@ -169,36 +105,18 @@ fn enum_item(alloc: Global, value: Value) -> Result<Item, ReadFault>
 fn trait_item(alloc: Global, value: Value) -> Result<Item, ReadFault>
     ensures { Gives result ((object_with trait_parts).read (view value)) }
 {
-    let mut left = Fields::of(
-        alloc,
-        value,
-        &[
-            Key::Kind,
-            Key::Name,
-            Key::Lifetimes,
-            Key::Methods,
-            Key::IsSend,
-            Key::IsSync,
-            Key::Docs,
-            Key::Attrs,
-        ],
-    )?;
-    left.next();
-    let name = needed(alloc, &mut left)?;
-    let nodes = listed(alloc, &mut left)?;
-    let methods = listed(alloc, &mut left)?;
-    let is_send = flag(alloc, &mut left)?;
-    let is_sync = flag(alloc, &mut left)?;
-    let (docs, attrs) = documented(alloc, &mut left)?;
-    Ok(Item::Trait(Trait {
-        name,
-        lifetimes: LifetimeEnv { nodes },
-        methods,
-        is_send,
-        is_sync,
-        docs,
-        attrs,
-    }))
+    read_object!(alloc, value, left, {
+        Kind => _ = left.next();
+        Name => name = needed(alloc, &mut left)?;
+        Lifetimes => nodes = listed(alloc, &mut left)?;
+        Methods => methods = listed(alloc, &mut left)?;
+        IsSend => is_send = flag(alloc, &mut left)?;
+        IsSync => is_sync = flag(alloc, &mut left)?;
+        Docs Attrs => (docs, attrs) = documented(alloc, &mut left)?;
+    } {
+        let lifetimes = LifetimeEnv { nodes };
+        Ok(Item::Trait(Trait { name, lifetimes, methods, is_send, is_sync, docs, attrs }))
+    })
 }
 
 /// A function.
@@ -206,36 +124,17 @@ fn trait_item(alloc: Global, value: Value) -> Result<Item, ReadFault>
 fn function(alloc: Global, value: Value) -> Result<Item, ReadFault>
     ensures { Gives result ((object_with function_parts).read (view value)) }
 {
-    let mut left = Fields::of(
-        alloc,
-        value,
-        &[
-            Key::Kind,
-            Key::Name,
-            Key::AbiName,
-            Key::Lifetimes,
-            Key::Params,
-            Key::Ret,
-            Key::Docs,
-            Key::Attrs,
-        ],
-    )?;
-    left.next();
-    let name = needed(alloc, &mut left)?;
-    let abi_name = or_name(alloc, &name, optional(alloc, &mut left)?)?;
-    let signature = signed(alloc, &mut left)?;
-    let (docs, attrs) = documented(alloc, &mut left)?;
-    Ok(Item::Function(Function {
-        abi_name,
-        name,
-        lifetimes: LifetimeEnv {
-            nodes: signature.nodes,
-        },
-        params: signature.params,
-        output_type: signature.returned,
-        docs,
-        attrs,
-    }))
+    read_object!(alloc, value, left, {
+        Kind => _ = left.next();
+        Name => name = needed(alloc, &mut left)?;
+        AbiName => abi_name = or_name(alloc, &name, optional(alloc, &mut left)?)?;
+        Lifetimes Params Ret => signature = signed(alloc, &mut left)?;
+        Docs Attrs => (docs, attrs) = documented(alloc, &mut left)?;
+    } {
+        let (params, output_type) = (signature.params, signature.returned);
+        let lifetimes = LifetimeEnv { nodes: signature.nodes };
+        Ok(Item::Function(Function { abi_name, name, lifetimes, params, output_type, docs, attrs }))
+    })
 }
 
 /// The kind of an item.

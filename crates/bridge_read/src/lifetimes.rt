@@ -3,9 +3,9 @@
 ghost use Rattle.std.specs.Prelude.{◌≡◌};
 ghost use Rattle.bridge_read.specs.forms.Lifetimes.{lifetime_called, mutability};
 
-use crate::reading::{FromForm, flag, listed, needed, needed_some};
+use crate::reading::{FromForm, flag, listed, needed, needed_some, read_object};
 use bridge_ast::{Lifetime, LifetimeNode, Mutability, PathType, Text};
-use bridge_form::{Fields, Key, ReadFault};
+use bridge_form::ReadFault;
 use serde_json::Value;
 use std::alloc::Global;
 
@@ -16,12 +16,11 @@ impl FromForm for LifetimeNode {
     ghost form = { node.read };
 
     fn from_form(alloc: Global, value: Value) -> Result<LifetimeNode, ReadFault> {
-        let mut left = Fields::of(alloc, value, &[Key::Name, Key::Longer, Key::Shorter])?;
-        Ok(LifetimeNode {
-            name: needed(alloc, &mut left)?,
-            longer: listed(alloc, &mut left)?,
-            shorter: listed(alloc, &mut left)?,
-        })
+        read_object!(alloc, value, left, {
+            Name => name = needed(alloc, &mut left)?;
+            Longer => longer = listed(alloc, &mut left)?;
+            Shorter => shorter = listed(alloc, &mut left)?;
+        } Ok(LifetimeNode { name, longer, shorter }))
     }
 }
 
@@ -66,10 +65,10 @@ impl FromForm for (Lifetime, Mutability) {
     ghost form = { reference.read };
 
     fn from_form(alloc: Global, value: Value) -> Result<(Lifetime, Mutability), ReadFault> {
-        let mut left = Fields::of(alloc, value, &[Key::Lifetime, Key::Mutable])?;
-        let lifetime = needed(alloc, &mut left)?;
-        let mutable = flag(alloc, &mut left)?;
-        Ok((lifetime, mutability(mutable)))
+        read_object!(alloc, value, left, {
+            Lifetime => lifetime = needed(alloc, &mut left)?;
+            Mutable => mutable = flag(alloc, &mut left)?;
+        } Ok((lifetime, mutability(mutable))))
     }
 }
 
@@ -80,10 +79,9 @@ impl FromForm for PathType {
     ghost form = { path.read };
 
     fn from_form(alloc: Global, value: Value) -> Result<PathType, ReadFault> {
-        let mut left = Fields::of(alloc, value, &[Key::Segments, Key::Lifetimes])?;
-        Ok(PathType {
-            segments: needed_some(alloc, &mut left)?,
-            lifetimes: listed(alloc, &mut left)?,
-        })
+        read_object!(alloc, value, left, {
+            Segments => segments = needed_some(alloc, &mut left)?;
+            Lifetimes => lifetimes = listed(alloc, &mut left)?;
+        } Ok(PathType { segments, lifetimes }))
     }
 }

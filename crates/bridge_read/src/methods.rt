@@ -10,7 +10,7 @@ ghost use Rattle.bridge_read.specs.inside.Taking.{Takes};
 
 use crate::attrs::no_attrs;
 use crate::docs::documented;
-use crate::reading::{FromForm, held, listed, needed, optional};
+use crate::reading::{FromForm, held, listed, needed, optional, read_object};
 use bridge_ast::{
     Items, LifetimeEnv, LifetimeNode, Method, NoMemory, Param, PathType, SelfParam, Text,
     TraitMethod, TraitSelfParam, TypeName,
@@ -36,12 +36,11 @@ impl FromForm for Param {
     ghost form = { param.read };
 
     fn from_form(alloc: Global, value: Value) -> Result<Param, ReadFault> {
-        let mut left = Fields::of(alloc, value, &[Key::Name, Key::Ty, Key::Attrs])?;
-        Ok(Param {
-            name: needed(alloc, &mut left)?,
-            ty: needed(alloc, &mut left)?,
-            attrs: held(alloc, &mut left, no_attrs(alloc))?,
-        })
+        read_object!(alloc, value, left, {
+            Name => name = needed(alloc, &mut left)?;
+            Ty => ty = needed(alloc, &mut left)?;
+            Attrs => attrs = held(alloc, &mut left, no_attrs(alloc))?;
+        } Ok(Param { name, ty, attrs }))
     }
 }
 
@@ -52,12 +51,11 @@ impl FromForm for SelfParam {
     ghost form = { receiver.read };
 
     fn from_form(alloc: Global, value: Value) -> Result<SelfParam, ReadFault> {
-        let mut left = Fields::of(alloc, value, &[Key::Reference, Key::Path, Key::Attrs])?;
-        Ok(SelfParam {
-            reference: optional(alloc, &mut left)?,
-            path_type: needed(alloc, &mut left)?,
-            attrs: held(alloc, &mut left, no_attrs(alloc))?,
-        })
+        read_object!(alloc, value, left, {
+            Reference => reference = optional(alloc, &mut left)?;
+            Path => path_type = needed(alloc, &mut left)?;
+            Attrs => attrs = held(alloc, &mut left, no_attrs(alloc))?;
+        } Ok(SelfParam { reference, path_type, attrs }))
     }
 }
 
@@ -125,37 +123,21 @@ impl FromForm for Method {
     ghost form = { method.read };
 
     fn from_form(alloc: Global, value: Value) -> Result<Method, ReadFault> {
-        let mut left = Fields::of(
-            alloc,
-            value,
-            &[
-                Key::Name,
-                Key::AbiName,
-                Key::SelfType,
-                Key::Itself,
-                Key::Lifetimes,
-                Key::Params,
-                Key::Ret,
-                Key::Docs,
-                Key::Attrs,
-            ],
-        )?;
-        let head = method_head(alloc, &mut left)?;
-        let signature = signed(alloc, &mut left)?;
-        let (docs, attrs) = documented(alloc, &mut left)?;
-        Ok(Method {
+        read_object!(alloc, value, left, {
+            Name AbiName SelfType Itself => head = method_head(alloc, &mut left)?;
+            Lifetimes Params Ret => signature = signed(alloc, &mut left)?;
+            Docs Attrs => (docs, attrs) = documented(alloc, &mut left)?;
+        } Ok(Method {
             name: head.name,
             abi_name: head.abi_name,
             self_type: head.self_type,
             self_param: head.self_param,
-            lifetime_env: LifetimeEnv {
-                nodes: signature.nodes,
-            },
+            lifetime_env: LifetimeEnv { nodes: signature.nodes },
             params: signature.params,
             return_type: signature.returned,
             docs,
             attrs,
-        })
+        }))
     }
 }
 
@@ -166,11 +148,10 @@ impl FromForm for TraitSelfParam {
     ghost form = { trait_receiver.read };
 
     fn from_form(alloc: Global, value: Value) -> Result<TraitSelfParam, ReadFault> {
-        let mut left = Fields::of(alloc, value, &[Key::Reference, Key::Path])?;
-        Ok(TraitSelfParam {
-            reference: optional(alloc, &mut left)?,
-            path_trait: needed(alloc, &mut left)?,
-        })
+        read_object!(alloc, value, left, {
+            Reference => reference = optional(alloc, &mut left)?;
+            Path => path_trait = needed(alloc, &mut left)?;
+        } Ok(TraitSelfParam { reference, path_trait }))
     }
 }
 
@@ -209,32 +190,18 @@ impl FromForm for TraitMethod {
     ghost form = { trait_method.read };
 
     fn from_form(alloc: Global, value: Value) -> Result<TraitMethod, ReadFault> {
-        let mut left = Fields::of(
-            alloc,
-            value,
-            &[
-                Key::Name,
-                Key::Lifetimes,
-                Key::Itself,
-                Key::Params,
-                Key::Ret,
-                Key::Docs,
-                Key::Attrs,
-            ],
-        )?;
-        let name = needed(alloc, &mut left)?;
-        let signature = trait_signed(alloc, &mut left)?;
-        let (docs, attrs) = documented(alloc, &mut left)?;
-        Ok(TraitMethod {
+        read_object!(alloc, value, left, {
+            Name => name = needed(alloc, &mut left)?;
+            Lifetimes Itself Params Ret => signature = trait_signed(alloc, &mut left)?;
+            Docs Attrs => (docs, attrs) = documented(alloc, &mut left)?;
+        } Ok(TraitMethod {
             name,
-            lifetimes: LifetimeEnv {
-                nodes: signature.nodes,
-            },
+            lifetimes: LifetimeEnv { nodes: signature.nodes },
             self_param: signature.self_param,
             params: signature.params,
             output_type: signature.returned,
             docs,
             attrs,
-        })
+        }))
     }
 }

@@ -7,12 +7,12 @@ ghost use Rattle.bridge_form.specs.declared.keys.Key.{Key as Name};
 ghost use Rattle.bridge_form.specs.Form.{object_with, read_alone};
 ghost use Rattle.bridge_form.specs.Given.{Gives};
 ghost use Rattle.bridge_read.specs.inside.Taking.{Takes, held};
-ghost use Rattle.bridge_read.specs.forms.Modules.{contents, module_of, module_parts, module_within, nested_in, root};
+ghost use Rattle.bridge_read.specs.forms.Modules.{contents, module_of, module_parts, module_within, nested_in};
 ghost use Rattle.bridge_form.specs.Left.{IsLeft};
 ghost use Rattle.bridge_read.specs.inside.Names.{NamesModule};
 
 use crate::attrs::no_attrs;
-use crate::reading::{FromForm, held, listed, needed};
+use crate::reading::{FromForm, held, listed, needed, read_object};
 use bridge_ast::{Alias, Attrs, Item, Items, Module, NoMemory, Text};
 use bridge_form::{Fields, Key, ReadFault, entries, in_entry, in_member};
 use serde_json::Value;
@@ -26,11 +26,10 @@ impl FromForm for Alias {
     ghost form = { alias.read };
 
     fn from_form(alloc: Global, value: Value) -> Result<Alias, ReadFault> {
-        let mut left = Fields::of(alloc, value, &[Key::Name, Key::Target])?;
-        Ok(Alias {
-            name: needed(alloc, &mut left)?,
-            target: needed(alloc, &mut left)?,
-        })
+        read_object!(alloc, value, left, {
+            Name => name = needed(alloc, &mut left)?;
+            Target => target = needed(alloc, &mut left)?;
+        } Ok(Alias { name, target }))
     }
 }
 
@@ -231,22 +230,12 @@ fn module_object(
     ensures { Gives result
         ((object_with (module_parts (nested_in levels) parent.now)).read (view value)) }
 {
-    let mut left = Fields::of(
-        alloc,
-        value,
-        &[
-            Key::Name,
-            Key::Attrs,
-            Key::Items,
-            Key::Aliases,
-            Key::Modules,
-        ],
-    )?;
-    let name = module_name(alloc, &mut left)?;
-    let contents = contents_in(alloc, &mut left)?;
-    let path = path_in(alloc, room, parent, name)?;
-    let nested = nested_modules(alloc, room, &mut left, path.as_slice(), levels)?;
-    Ok(module_of(alloc, path, contents, nested)?)
+    read_object!(alloc, value, left, {
+        Name => name = module_name(alloc, &mut left)?;
+        Attrs Items Aliases => contents = contents_in(alloc, &mut left)?;
+        => path = path_in(alloc, room, parent, name)?;
+        Modules => nested = nested_modules(alloc, room, &mut left, path.as_slice(), levels)?;
+    } Ok(module_of(alloc, path, contents, nested)?))
 }
 
 /// The same, where modules may nest so deep.
@@ -266,28 +255,17 @@ fn module_within(
     }
 }
 
-/// The root, with all other modules after it.
 #[tactic(auto, unfolding(crate::specs::forms::Modules::root, crate::specs::forms::Modules::contents, bridge_form::specs::Left::are_apart, bridge_form::specs::Keys::key_text))]
-fn root(alloc: Global, value: Value) -> Result<ModuleList, ReadFault>
-    ensures { Gives result (root.read (view value)) }
-{
-    let mut left = Fields::of(
-        alloc,
-        value,
-        &[Key::Attrs, Key::Items, Key::Aliases, Key::Modules],
-    )?;
-    let contents = contents_in(alloc, &mut left)?;
-    let mut room = PATHS_MOST;
-    let nested = nested_modules(alloc, &mut room, &mut left, &[], 64)?;
-    Ok(module_of(alloc, Items::new(alloc), contents, nested)?)
-}
-
 impl FromForm for ModuleList {
     ghost use Rattle.bridge_read.specs.forms.Modules.{root};
 
     ghost form = { root.read };
 
     fn from_form(alloc: Global, value: Value) -> Result<ModuleList, ReadFault> {
-        root(alloc, value)
+        let mut room = PATHS_MOST;
+        read_object!(alloc, value, left, {
+            Attrs Items Aliases => contents = contents_in(alloc, &mut left)?;
+            Modules => nested = nested_modules(alloc, &mut room, &mut left, &[], 64)?;
+        } Ok(module_of(alloc, Items::new(alloc), contents, nested)?))
     }
 }

@@ -16,6 +16,21 @@ use bridge_words::{Word, one_word};
 use serde_json::Value;
 use std::alloc::Global;
 
+/// Reads an object of the form, and makes what it spells. Each row has the keys that are read together, in the order of the form, the variables
+/// that take what stands under them, and the call that reads it; a row without a key makes something of the rows before it.
+macro_rules! read_object {
+    ($alloc:ident, $value:ident, $left:ident, {
+        $($($key:ident)* => $part:pat = $read:expr;)*
+    } $made:expr) => {{
+        let mut $left =
+            bridge_form::Fields::of($alloc, $value, &[$($(bridge_form::Key::$key,)*)*])?;
+        $(let $part = $read;)*
+        $made
+    }};
+}
+
+pub(crate) use read_object;
+
 /// What a JSON value of a form spells.
 pub trait FromForm: Drop {
     ghost use Rattle.std.specs.Prelude.{Result};
@@ -86,10 +101,7 @@ impl FromForm for usize {
     ghost form = { number_read };
 
     fn from_form(alloc: Global, value: Value) -> Result<usize, ReadFault> {
-        match value.as_u64() {
-            Some(number) => Ok(number as usize),
-            None => Err(ReadFault::wrong_form(alloc)),
-        }
+        Ok(value.as_u64().ok_or(ReadFault::wrong_form(alloc))? as usize)
     }
 }
 
@@ -100,10 +112,7 @@ impl FromForm for bool {
     ghost form = { flag_of };
 
     fn from_form(alloc: Global, value: Value) -> Result<bool, ReadFault> {
-        match value.as_bool() {
-            Some(set) => Ok(set),
-            None => Err(ReadFault::wrong_form(alloc)),
-        }
+        value.as_bool().ok_or(ReadFault::wrong_form(alloc))
     }
 }
 
@@ -128,10 +137,7 @@ impl FromForm for i64 {
     ghost form = { integer_of };
 
     fn from_form(alloc: Global, value: Value) -> Result<i64, ReadFault> {
-        match value.as_i64() {
-            Some(number) => Ok(number),
-            None => Err(ReadFault::wrong_form(alloc)),
-        }
+        value.as_i64().ok_or(ReadFault::wrong_form(alloc))
     }
 }
 

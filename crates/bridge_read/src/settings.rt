@@ -10,7 +10,7 @@ ghost use Rattle.bridge_read.specs.forms.Settings.{backend_names, flag_words, na
 ghost use Rattle.bridge_form.specs.Left.{IsLeft};
 ghost use Rattle.bridge_read.specs.inside.Taking.{Takes, held};
 
-use crate::reading::{FromForm, flag, held, listed, needed, optional};
+use crate::reading::{FromForm, flag, held, listed, needed, optional, read_object};
 use bridge_ast::{Items, NoMemory, Text};
 use bridge_form::{Fields, Key, ReadFault, in_member_named, members, text};
 use hir_backends::{BackendAttrSupport, BasicAttributeValidator, Names, Pairs, SupportFlag};
@@ -40,10 +40,7 @@ impl FromForm for SupportFlag {
     ghost form = { support_flag.read };
 
     fn from_form(alloc: Global, value: Value) -> Result<SupportFlag, ReadFault> {
-        match flag_called(text(alloc, &value)?) {
-            Some(flag) => Ok(flag),
-            None => Err(ReadFault::wrong_form(alloc)),
-        }
+        flag_called(text(alloc, &value)?).ok_or(ReadFault::wrong_form(alloc))
     }
 }
 
@@ -78,10 +75,10 @@ impl FromForm for (Text, Text) {
     ghost form = { name_value.read };
 
     fn from_form(alloc: Global, value: Value) -> Result<(Text, Text), ReadFault> {
-        let mut left = Fields::of(alloc, value, &[Key::Name, Key::Value])?;
-        let name = needed(alloc, &mut left)?;
-        let value = needed(alloc, &mut left)?;
-        Ok((name, value))
+        read_object!(alloc, value, left, {
+            Name => name = needed(alloc, &mut left)?;
+            Value => value = needed(alloc, &mut left)?;
+        } Ok((name, value)))
     }
 }
 
@@ -125,26 +122,17 @@ impl FromForm for BasicAttributeValidator {
     ghost form = { backend.read };
 
     fn from_form(alloc: Global, value: Value) -> Result<BasicAttributeValidator, ReadFault> {
-        let mut left = Fields::of(
-            alloc,
-            value,
-            &[
-                Key::Name,
-                Key::OtherNames,
-                Key::Supports,
-                Key::Pairs,
-                Key::Features,
-                Key::Unstable,
-            ],
-        )?;
-        let (backend_name, other_backend_names, support) = backend_names(alloc, &mut left)?;
-        Ok(BasicAttributeValidator {
-            backend_name,
-            support,
-            other_backend_names,
-            name_values: pairs(alloc, &mut left)?,
-            features_enabled: names(alloc, &mut left)?,
-            semver_unstable_features: names(alloc, &mut left)?,
+        read_object!(alloc, value, left, {
+            Name OtherNames Supports => called = backend_names(alloc, &mut left)?;
+            Pairs => name_values = pairs(alloc, &mut left)?;
+            Features => features_enabled = names(alloc, &mut left)?;
+            Unstable => semver_unstable_features = names(alloc, &mut left)?;
+        } {
+            let (backend_name, other_backend_names, support) = called;
+            Ok(BasicAttributeValidator {
+                backend_name, support, other_backend_names, name_values, features_enabled,
+                semver_unstable_features,
+            })
         })
     }
 }
@@ -156,10 +144,9 @@ impl FromForm for LoweringConfig {
     ghost form = { config.read };
 
     fn from_form(alloc: Global, value: Value) -> Result<LoweringConfig, ReadFault> {
-        let mut left = Fields::of(alloc, value, &[Key::UnsafeReferences])?;
-        Ok(LoweringConfig {
-            unsafe_references_in_callbacks: flag(alloc, &mut left)?,
-        })
+        read_object!(alloc, value, left, {
+            UnsafeReferences => unsafe_references_in_callbacks = flag(alloc, &mut left)?;
+        } Ok(LoweringConfig { unsafe_references_in_callbacks }))
     }
 }
 
@@ -234,9 +221,9 @@ impl FromForm for DocsUrlGenerator {
     ghost form = { urls.read };
 
     fn from_form(alloc: Global, value: Value) -> Result<DocsUrlGenerator, ReadFault> {
-        let mut left = Fields::of(alloc, value, &[Key::Default, Key::Bases])?;
-        let default = optional(alloc, &mut left)?;
-        let bases = held(alloc, &mut left, Bases::new(alloc))?;
-        Ok(DocsUrlGenerator::with_base_urls(default, bases.into_map()))
+        read_object!(alloc, value, left, {
+            Default => default = optional(alloc, &mut left)?;
+            Bases => bases = held(alloc, &mut left, Bases::new(alloc))?;
+        } Ok(DocsUrlGenerator::with_base_urls(default, bases.into_map())))
     }
 }

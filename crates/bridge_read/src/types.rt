@@ -9,10 +9,10 @@ ghost use Rattle.bridge_form.specs.Reading.{list_of};
 ghost use Rattle.bridge_form.specs.Given.{Gives};
 ghost use Rattle.bridge_read.specs.inside.Taking.{Takes, held, needed};
 ghost use Rattle.bridge_form.specs.Left.{IsLeft};
-ghost use Rattle.bridge_read.specs.forms.Types.{borrow_of, spelling, type_called, type_word, type_keys, type_under, type_within, written_primitive, writer_called, reference_type, result_type, custom_slice, callback, str_slice, str_list, primitive_slice, written_borrow};
+ghost use Rattle.bridge_read.specs.forms.Types.{borrow_of, spelling, type_word, type_keys, type_under, type_within, written_primitive, reference_type, result_type, custom_slice, callback, str_slice, str_list, primitive_slice, written_borrow};
 
 use crate::lifetimes::mutability;
-use crate::reading::{FromForm, flag, needed, needed_word, optional, room_for};
+use crate::reading::{FromForm, flag, needed, needed_word, optional, read_object, room_for};
 use bridge_ast::{
     Boxed, Items, Lifetime, Mutability, PathType, PrimitiveType, StdlibOrDiplomat, TypeName,
     WriteType,
@@ -35,28 +35,15 @@ fn spelling(std: bool) -> StdlibOrDiplomat
     }
 }
 
-/// The type for which a word stands: a primitive type, `ordering` or `unit`.
-#[tactic(auto, unfolding(crate::specs::forms::Types::type_called))]
-fn type_called(word: &str) -> Option<TypeName>
-    ensures { result ≡ type_called word.now }
-{
-    if word == "ordering" {
-        Some(TypeName::Ordering)
-    } else if word == "unit" {
-        Some(TypeName::Unit)
-    } else {
-        find_word(word).map(TypeName::Primitive)
-    }
-}
-
-/// A type for which a word stands.
-#[tactic(auto, unfolding(crate::specs::forms::Types::type_word))]
+/// A type for which a word stands: a primitive type, `ordering` or `unit`.
+#[tactic(auto, unfolding(crate::specs::forms::Types::type_word, crate::specs::forms::Types::type_called))]
 fn type_word(alloc: Global, value: &Value) -> Result<TypeName, ReadFault>
     ensures { Gives result (type_word.read (view value.now)) }
 {
-    match type_called(text(alloc, value)?) {
-        Some(ty) => Ok(ty),
-        None => Err(ReadFault::wrong_form(alloc)),
+    match text(alloc, value)? {
+        "ordering" => Ok(TypeName::Ordering),
+        "unit" => Ok(TypeName::Unit),
+        word => Ok(TypeName::Primitive(find_word(word).ok_or(ReadFault::wrong_form(alloc))?)),
     }
 }
 
@@ -71,30 +58,20 @@ fn written_primitive(primitive: PrimitiveType) -> Option<WriteType>
     }
 }
 
-/// What a writer takes: `str`, `str16` or a primitive type.
-#[tactic(auto, unfolding(crate::specs::forms::Types::writer_called))]
-fn writer_called(word: &str) -> Option<WriteType>
-    ensures { result ≡ writer_called word.now }
-{
-    if word == "str" {
-        Some(WriteType::Str)
-    } else if word == "str16" {
-        Some(WriteType::Str16)
-    } else {
-        written_primitive(find_word(word)?)
-    }
-}
-
-#[tactic(auto, unfolding(crate::specs::forms::Types::writer))]
+#[tactic(auto, unfolding(crate::specs::forms::Types::writer, crate::specs::forms::Types::writer_called))]
 impl FromForm for WriteType {
     ghost use Rattle.bridge_read.specs.forms.Types.{writer};
 
     ghost form = { writer.read };
 
     fn from_form(alloc: Global, value: Value) -> Result<WriteType, ReadFault> {
-        match writer_called(text(alloc, &value)?) {
-            Some(writer) => Ok(writer),
-            None => Err(ReadFault::wrong_form(alloc)),
+        match text(alloc, &value)? {
+            "str" => Ok(WriteType::Str),
+            "str16" => Ok(WriteType::Str16),
+            word => {
+                let taken = find_word(word).and_then(written_primitive);
+                taken.ok_or(ReadFault::wrong_form(alloc))
+            }
         }
     }
 }
@@ -104,11 +81,11 @@ impl FromForm for WriteType {
 fn str_slice(alloc: Global, value: Value) -> Result<TypeName, ReadFault>
     ensures { Gives result (str_slice.read (view value)) }
 {
-    let mut left = Fields::of(alloc, value, &[Key::Lifetime, Key::Encoding, Key::Std])?;
-    let lifetime = optional(alloc, &mut left)?;
-    let encoding = needed_word(alloc, &mut left)?;
-    let std = flag(alloc, &mut left)?;
-    Ok(TypeName::StrReference(lifetime, encoding, spelling(std)))
+    read_object!(alloc, value, left, {
+        Lifetime => lifetime = optional(alloc, &mut left)?;
+        Encoding => encoding = needed_word(alloc, &mut left)?;
+        Std => std = flag(alloc, &mut left)?;
+    } Ok(TypeName::StrReference(lifetime, encoding, spelling(std))))
 }
 
 /// `{"encoding": encoding, "std": bool}`.
@@ -116,10 +93,10 @@ fn str_slice(alloc: Global, value: Value) -> Result<TypeName, ReadFault>
 fn str_list(alloc: Global, value: Value) -> Result<TypeName, ReadFault>
     ensures { Gives result (str_list.read (view value)) }
 {
-    let mut left = Fields::of(alloc, value, &[Key::Encoding, Key::Std])?;
-    let encoding = needed_word(alloc, &mut left)?;
-    let std = flag(alloc, &mut left)?;
-    Ok(TypeName::StrSlice(encoding, spelling(std)))
+    read_object!(alloc, value, left, {
+        Encoding => encoding = needed_word(alloc, &mut left)?;
+        Std => std = flag(alloc, &mut left)?;
+    } Ok(TypeName::StrSlice(encoding, spelling(std))))
 }
 
 /// The lifetime of a slice with its mutability. A slice without a lifetime is owned; that it is mutable is then the wrong form.
@@ -146,15 +123,11 @@ fn borrow(alloc: Global, left: &mut Fields) -> Result<Option<(Lifetime, Mutabili
 fn primitive_slice(alloc: Global, value: Value) -> Result<TypeName, ReadFault>
     ensures { Gives result (primitive_slice.read (view value)) }
 {
-    let mut left = Fields::of(
-        alloc,
-        value,
-        &[Key::Lifetime, Key::Mutable, Key::Of, Key::Std],
-    )?;
-    let borrow = borrow(alloc, &mut left)?;
-    let of = needed_word(alloc, &mut left)?;
-    let std = flag(alloc, &mut left)?;
-    Ok(TypeName::PrimitiveSlice(borrow, of, spelling(std)))
+    read_object!(alloc, value, left, {
+        Lifetime Mutable => borrow = borrow(alloc, &mut left)?;
+        Of => of = needed_word(alloc, &mut left)?;
+        Std => std = flag(alloc, &mut left)?;
+    } Ok(TypeName::PrimitiveSlice(borrow, of, spelling(std))))
 }
 
 /// A type as what a type leads to.
@@ -187,11 +160,11 @@ fn needed_type(
 fn reference_type(alloc: Global, value: Value, levels: usize) -> Result<TypeName, ReadFault>
     ensures { Gives result ((reference_type (type_within levels)).read (view value)) }
 {
-    let mut left = Fields::of(alloc, value, &[Key::Lifetime, Key::Mutable, Key::To])?;
-    let lifetime = needed(alloc, &mut left)?;
-    let mutable = flag(alloc, &mut left)?;
-    let to = needed_type(alloc, &mut left, levels)?;
-    Ok(TypeName::Reference(lifetime, mutability(mutable), to))
+    read_object!(alloc, value, left, {
+        Lifetime => lifetime = needed(alloc, &mut left)?;
+        Mutable => mutable = flag(alloc, &mut left)?;
+        To => to = needed_type(alloc, &mut left, levels)?;
+    } Ok(TypeName::Reference(lifetime, mutability(mutable), to)))
 }
 
 /// `{"ok": type, "err": type}`.
@@ -205,10 +178,10 @@ fn result_type(
 ) -> Result<TypeName, ReadFault>
     ensures { Gives result ((result_type (type_within levels) whose).read (view value)) }
 {
-    let mut left = Fields::of(alloc, value, &[Key::OkType, Key::ErrType])?;
-    let ok = needed_type(alloc, &mut left, levels)?;
-    let err = needed_type(alloc, &mut left, levels)?;
-    Ok(TypeName::Result(ok, err, whose))
+    read_object!(alloc, value, left, {
+        OkType => ok = needed_type(alloc, &mut left, levels)?;
+        ErrType => err = needed_type(alloc, &mut left, levels)?;
+    } Ok(TypeName::Result(ok, err, whose)))
 }
 
 /// `{"lifetime": lifetime, "mutable": bool, "of": type, "std": bool}`.
@@ -217,15 +190,11 @@ fn result_type(
 fn custom_slice(alloc: Global, value: Value, levels: usize) -> Result<TypeName, ReadFault>
     ensures { Gives result ((custom_slice (type_within levels)).read (view value)) }
 {
-    let mut left = Fields::of(
-        alloc,
-        value,
-        &[Key::Lifetime, Key::Mutable, Key::Of, Key::Std],
-    )?;
-    let borrow = borrow(alloc, &mut left)?;
-    let of = needed_type(alloc, &mut left, levels)?;
-    let std = flag(alloc, &mut left)?;
-    Ok(TypeName::CustomTypeSlice(borrow, of, spelling(std)))
+    read_object!(alloc, value, left, {
+        Lifetime Mutable => borrow = borrow(alloc, &mut left)?;
+        Of => of = needed_type(alloc, &mut left, levels)?;
+        Std => std = flag(alloc, &mut left)?;
+    } Ok(TypeName::CustomTypeSlice(borrow, of, spelling(std))))
 }
 
 /// The types of a list.
@@ -280,11 +249,11 @@ fn type_or_unit(
 fn callback(alloc: Global, value: Value, levels: usize) -> Result<TypeName, ReadFault>
     ensures { Gives result ((callback (type_within levels)).read (view value)) }
 {
-    let mut left = Fields::of(alloc, value, &[Key::Params, Key::Ret, Key::Mutable])?;
-    let params = types_under(alloc, &mut left, levels)?;
-    let ret = type_or_unit(alloc, &mut left, levels)?;
-    let mutable = flag(alloc, &mut left)?;
-    Ok(TypeName::Function(params, ret, mutability(mutable)))
+    read_object!(alloc, value, left, {
+        Params => params = types_under(alloc, &mut left, levels)?;
+        Ret => ret = type_or_unit(alloc, &mut left, levels)?;
+        Mutable => mutable = flag(alloc, &mut left)?;
+    } Ok(TypeName::Function(params, ret, mutability(mutable))))
 }
 
 /// What stands under the key of a type, by the key.
