@@ -5,10 +5,10 @@ ghost use Rattle.std.specs.Str.{all_ascii_digits};
 ghost use Rattle.serde_json.specs.View.{view};
 ghost use Rattle.bridge_form.specs.Reading.{list_of};
 ghost use Rattle.bridge_form.specs.Given.{Gives};
-ghost use Rattle.bridge_read.specs.forms.Attrs.{condition_keys, condition_under, condition_within, condition_word, argument_of, digits, literal_called, literal_keys, literal_under, literal_word, no_attrs, sole_char};
+ghost use Rattle.bridge_read.specs.forms.Attrs.{condition_under, condition_within, condition_word, argument_of, digits, literal_called, literal_under, literal_word, no_attrs, sole_char};
 
 use crate::reading::{
-    FromForm, held, listed, needed, needed_some, optional, read_object, room_for, two,
+    FromForm, held, keys, listed, needed, needed_some, optional, read_object, room_for, two,
 };
 use bridge_ast::{
     Assign, Attrs, Boxed, DiplomatBackendAttr, DiplomatBackendAttrCfg, Items, Lit, Meta, MetaValue,
@@ -90,15 +90,8 @@ fn condition_within(
     if let Some(_) = value.as_str() {
         return condition_word(alloc, &value);
     }
-    let (key, found) = sole(alloc, value, condition_keys())?;
+    let (key, found) = sole(alloc, value, keys![Backend Pair Not Any All])?;
     in_member(alloc, key, condition_under(alloc, key, found, inner))
-}
-
-/// The keys of conditions.
-fn condition_keys() -> &'static [Key]
-    ensures { result.now ≡ condition_keys }
-{
-    &[Key::Backend, Key::Pair, Key::Not, Key::Any, Key::All]
 }
 
 #[tactic(auto, unfolding(crate::specs::forms::Attrs::condition))]
@@ -182,20 +175,6 @@ fn literal_under(alloc: Global, key: Key, value: Value) -> Result<Lit, ReadFault
     }
 }
 
-/// The keys of literals.
-fn literal_keys() -> &'static [Key]
-    ensures { result.now ≡ literal_keys }
-{
-    &[
-        Key::Bool,
-        Key::Char,
-        Key::Byte,
-        Key::Int,
-        Key::Float,
-        Key::Str,
-    ]
-}
-
 #[tactic(auto, unfolding(crate::specs::forms::Attrs::literal, bridge_form::specs::Left::are_apart, bridge_form::specs::Keys::key_text))]
 impl FromForm for Lit {
     ghost use Rattle.bridge_read.specs.forms.Attrs.{literal};
@@ -206,7 +185,7 @@ impl FromForm for Lit {
         if let Some(_) = value.as_str() {
             return literal_word(alloc, &value);
         }
-        let (key, found) = sole(alloc, value, literal_keys())?;
+        let (key, found) = sole(alloc, value, keys![Bool Char Byte Int Float Str])?;
         in_member(alloc, key, literal_under(alloc, key, found))
     }
 }

@@ -16,6 +16,11 @@ use bridge_words::{Word, one_word};
 use serde_json::Value;
 use std::alloc::Global;
 
+/// Keys of the form, in order.
+macro_rules! keys {
+    ($($key:ident)*) => { &[$(bridge_form::Key::$key),*] };
+}
+
 /// Reads an object of the form, and makes what it spells. Each row has the keys that are read together, in the order of the form, the variables
 /// that take what stands under them, and the call that reads it; a row without a key makes something of the rows before it.
 macro_rules! read_object {
@@ -23,12 +28,13 @@ macro_rules! read_object {
         $($($key:ident)* => $part:pat = $read:expr;)*
     } $made:expr) => {{
         let mut $left =
-            bridge_form::Fields::of($alloc, $value, &[$($(bridge_form::Key::$key,)*)*])?;
+            bridge_form::Fields::of($alloc, $value, $crate::reading::keys![$($($key)*)*])?;
         $(let $part = $read;)*
         $made
     }};
 }
 
+pub(crate) use keys;
 pub(crate) use read_object;
 
 /// What a JSON value of a form spells.

@@ -9,10 +9,10 @@ ghost use Rattle.bridge_form.specs.Reading.{list_of};
 ghost use Rattle.bridge_form.specs.Given.{Gives};
 ghost use Rattle.bridge_read.specs.inside.Taking.{Takes, held, needed};
 ghost use Rattle.bridge_form.specs.Left.{IsLeft};
-ghost use Rattle.bridge_read.specs.forms.Types.{borrow_of, spelling, type_word, type_keys, type_under, type_within, written_primitive, reference_type, result_type, custom_slice, callback, str_slice, str_list, primitive_slice, written_borrow};
+ghost use Rattle.bridge_read.specs.forms.Types.{borrow_of, spelling, type_word, type_under, type_within, written_primitive, reference_type, result_type, custom_slice, callback, str_slice, str_list, primitive_slice, written_borrow};
 
 use crate::lifetimes::mutability;
-use crate::reading::{FromForm, flag, needed, needed_word, optional, read_object, room_for};
+use crate::reading::{FromForm, flag, keys, needed, needed_word, optional, read_object, room_for};
 use bridge_ast::{
     Boxed, Items, Lifetime, Mutability, PathType, PrimitiveType, StdlibOrDiplomat, TypeName,
     WriteType,
@@ -299,31 +299,12 @@ fn type_within(alloc: Global, value: Value, levels: usize) -> Result<TypeName, R
     if let Some(_) = value.as_str() {
         return type_word(alloc, &value);
     }
-    let (key, found) = sole(alloc, value, type_keys())?;
+    let keys = keys![
+        Named Itself ImplTrait Ref Boxed StdOption DiplomatOption StdResult DiplomatResult Write Str
+        Strs Slice CustomSlice Callback
+    ];
+    let (key, found) = sole(alloc, value, keys)?;
     in_member(alloc, key, type_under(alloc, key, found, inner))
-}
-
-/// The keys of types.
-fn type_keys() -> &'static [Key]
-    ensures { result.now ≡ type_keys }
-{
-    &[
-        Key::Named,
-        Key::Itself,
-        Key::ImplTrait,
-        Key::Ref,
-        Key::Boxed,
-        Key::StdOption,
-        Key::DiplomatOption,
-        Key::StdResult,
-        Key::DiplomatResult,
-        Key::Write,
-        Key::Str,
-        Key::Strs,
-        Key::Slice,
-        Key::CustomSlice,
-        Key::Callback,
-    ]
 }
 
 #[tactic(auto, unfolding(crate::specs::forms::Types::type_name))]
