@@ -3,12 +3,11 @@
 ghost use Rattle.std.specs.Prelude.{◌≡◌};
 ghost use Rattle.hir_life.specs.declared.maybe_static.MaybeStatic.TheVariants.{NonStatic};
 
-mod agree;
 mod counted;
 mod declared;
 mod explaining;
-mod plain;
 mod sound;
+mod visiting;
 
 use crate::tests::counted::counted;
 use bridge_decl::{IdentBuf, NoMemory};
@@ -19,7 +18,6 @@ use hir_life::{
 use sqlite_items::Items;
 use std::alloc::Global;
 use std::marker::Brand;
-use std::process::Abort;
 use std::sync::ledger::Blank;
 use std::test::Fail;
 
@@ -115,18 +113,22 @@ const WALKS: [WalkRow; 10] = [
     (&[(1, 0)], 5, &[5], &[5]),
 ];
 
-fn walk_row(rt: &impl Abort, alloc: Global, row: &WalkRow) -> Result<(), Fail> {
-    let (bounds, start, longer, shorter) = row;
-    let env = environment(alloc, &["a", "b", "c", "d"], bounds, 6)?;
-    assert!(rt; longer_from(alloc, &env, *start)?.as_slice() == *longer);
-    assert!(rt; shorter_from(alloc, &env, *start)?.as_slice() == *shorter);
-    Ok(())
+/// Whether the walks from the lifetime of the row are those of the row.
+fn walks_hold(alloc: Global, env: &LifetimeEnv, row: &WalkRow) -> Result<bool, Fail> {
+    let longer = longer_from(alloc, env, row.1)?;
+    let shorter = shorter_from(alloc, env, row.1)?;
+    Ok(longer.as_slice() == row.2 && shorter.as_slice() == row.3)
+}
+
+fn walk_row(alloc: Global, row: &WalkRow) -> Result<bool, Fail> {
+    let env = environment(alloc, &["a", "b", "c", "d"], row.0, 6)?;
+    walks_hold(alloc, &env, row)
 }
 
 #[test]
 fn walks(rt: HostRuntime) -> Result<(), Fail> {
     for row in &WALKS {
-        walk_row(&rt, rt.alloc(), row)?;
+        assert!(rt; walk_row(rt.alloc(), row)?, "from {}", row.1);
     }
     Ok(())
 }
@@ -174,15 +176,26 @@ fn substitution_of_one(rt: HostRuntime) -> Result<(), Fail> {
     Ok(())
 }
 
-#[test]
-fn given_one_by_one(rt: HostRuntime) -> Result<(), Fail> {
-    let outer = in_method(rt.alloc())?.try_clone(rt.alloc())?;
-    let mut given = Lifetimes::new(rt.alloc());
-    for lifetime in outer.lifetimes() {
+/// The lifetimes, one by one.
+fn given_of(alloc: Global, lifetimes: &Lifetimes) -> Result<Lifetimes, NoMemory> {
+    let mut given = Lifetimes::new(alloc);
+    for lifetime in lifetimes.lifetimes() {
         given.push(lifetime)?;
     }
-    assert!(rt; given.as_slice() == outer.as_slice());
-    assert!(rt; given.len() == 3);
+    Ok(given)
+}
+
+/// Whether the lifetimes come one by one as they stand in a copy of the list.
+fn come_one_by_one(alloc: Global, lifetimes: &Lifetimes) -> Result<bool, NoMemory> {
+    let copy = lifetimes.try_clone(alloc)?;
+    let given = given_of(alloc, lifetimes)?;
+    Ok(given.as_slice() == copy.as_slice() && given.len() == 3)
+}
+
+#[test]
+fn given_one_by_one(rt: HostRuntime) -> Result<(), Fail> {
+    let outer = in_method(rt.alloc())?;
+    assert!(rt; come_one_by_one(rt.alloc(), &outer)?);
     Ok(())
 }
 
@@ -206,12 +219,17 @@ fn each_of(alloc: Global, env: &LifetimeEnv) -> Result<Vec<MaybeStatic<Lifetime>
     Ok(all)
 }
 
+/// Whether the list of the environment's lifetimes has each of them, and these are three.
+fn are_all_three(alloc: Global, env: &LifetimeEnv) -> Result<bool, Fail> {
+    let all = each_of(alloc, env)?;
+    let list = env.lifetimes(alloc)?;
+    Ok(list.as_slice() == all.as_slice() && all.len() == 3)
+}
+
 #[test]
 fn lists(rt: HostRuntime) -> Result<(), Fail> {
     let env = two_and_one(rt.alloc())?;
-    let all = each_of(rt.alloc(), &env)?;
-    assert!(rt; env.lifetimes(rt.alloc())?.as_slice() == all.as_slice());
-    assert!(rt; all.len() == 3);
+    assert!(rt; are_all_three(rt.alloc(), &env)?);
     Ok(())
 }
 
@@ -223,12 +241,17 @@ fn shorter_bounds(env: &LifetimeEnv, number: usize) -> Option<&[Lifetime]> {
     Some(env.get_bounds(Lifetime::new(number))?.shorter.as_slice())
 }
 
+/// Whether `'b: 'a` are the bounds, and the anonymous lifetime has none.
+fn bounds_hold(env: &LifetimeEnv) -> bool {
+    longer_bounds(env, 0) == Some([Lifetime::new(1)].as_slice())
+        && shorter_bounds(env, 1) == Some([Lifetime::new(0)].as_slice())
+        && longer_bounds(env, 2).is_none()
+}
+
 #[test]
 fn bounds(rt: HostRuntime) -> Result<(), Fail> {
     let env = two_and_one(rt.alloc())?;
-    assert!(rt; longer_bounds(&env, 0) == Some([Lifetime::new(1)].as_slice()));
-    assert!(rt; shorter_bounds(&env, 1) == Some([Lifetime::new(0)].as_slice()));
-    assert!(rt; longer_bounds(&env, 2).is_none());
+    assert!(rt; bounds_hold(&env));
     Ok(())
 }
 
@@ -241,12 +264,16 @@ fn bounded_by_b(alloc: Global) -> Result<BoundedLifetime, Fail> {
     })
 }
 
+fn is_bounded_by_b(lifetime: &BoundedLifetime) -> bool {
+    lifetime.ident.as_str() == "a"
+        && lifetime.shorter.len() == 0
+        && lifetime.longer.as_slice().first().copied() == Some(Lifetime::new(1))
+}
+
 #[test]
 fn copies(rt: HostRuntime) -> Result<(), Fail> {
-    let copy = bounded_by_b(rt.alloc())?.try_clone(rt.alloc())?;
-    assert!(rt; copy.ident.as_str() == "a");
-    assert!(rt; copy.shorter.len() == 0);
-    assert!(rt; copy.longer.as_slice().first().copied() == Some(Lifetime::new(1)));
+    let made = bounded_by_b(rt.alloc())?;
+    assert!(rt; is_bounded_by_b(&made.try_clone(rt.alloc())?));
     Ok(())
 }
 
@@ -275,13 +302,30 @@ fn name_of(alloc: Global, env: &LifetimeEnv, number: usize) -> Result<Option<Str
     Ok(Some(format!(in alloc; "{name}")?))
 }
 
+/// Whether the lifetime of a number has that name.
+fn is_named(
+    alloc: Global,
+    env: &LifetimeEnv,
+    number: usize,
+    expected: Option<&str>,
+) -> Result<bool, Fail> {
+    let name = name_of(alloc, env, number)?;
+    Ok(name.as_ref().map(|name| name.as_str()) == expected)
+}
+
+/// Whether the names of fourteen lifetimes are those of the rows.
+fn names_hold(alloc: Global, env: &LifetimeEnv) -> Result<bool, Fail> {
+    for (number, expected) in &NAMES {
+        if !is_named(alloc, env, *number, *expected)? {
+            return Ok(false);
+        }
+    }
+    Ok(env.num_lifetimes() == 14)
+}
+
 #[test]
 fn names(rt: HostRuntime) -> Result<(), Fail> {
     let env = environment(rt.alloc(), &["a", "long_name"], &[(1, 0)], 14)?;
-    assert!(rt; env.num_lifetimes() == 14);
-    for (number, expected) in NAMES {
-        let name = name_of(rt.alloc(), &env, number)?;
-        assert!(rt; name.as_ref().map(|name| name.as_str()) == expected);
-    }
+    assert!(rt; names_hold(rt.alloc(), &env)?);
     Ok(())
 }

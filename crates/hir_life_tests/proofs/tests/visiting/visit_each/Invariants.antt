@@ -1,4 +1,4 @@
-use Rattle.hir_life_tests.proofs.tests.agree.visit_each.Given as goal
+use Rattle.hir_life_tests.proofs.tests.visiting.visit_each.Given as goal
 
 abbrev pub invariant-loop-start : goal.invariant-loop-start
 invariant-loop-start g l = goal.F-IsAlwaysCallable g l.visitor.visit_fn
