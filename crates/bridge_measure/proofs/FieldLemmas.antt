@@ -5,6 +5,7 @@ use Rattle.bridge_generate.specs.Generated.{one_lifetime}
 use Rattle.bridge_grid.specs.Faults.{type_faults}
 use Rattle.bridge_grid.specs.Telling.{fault_error, field_error}
 use Rattle.bridge_grid.specs.declared.part.Part.TheVariants.{Whole}
+use Rattle.bridge_measure.proofs.MarkLemmas.{part_tested}
 use Rattle.bridge_order.specs.declared.catalog.Catalog.{Catalog}
 use Rattle.bridge_rules.specs.declared.position.Position.TheVariants as position
 use Rattle.hir_backends.specs.Backend.{Backend}
@@ -17,6 +18,7 @@ use Rattle.hir_heads.specs.Heads.{lifetime_errors}
 use Rattle.hir_heads.specs.Names.{name_errors}
 use Rattle.hir_life.specs.declared.maybe_static.MaybeStatic.{MaybeStatic}
 use Rattle.hir_life.specs.declared.maybe_static.MaybeStatic.TheVariants.{NonStatic}
+use Rattle.hir_mark_contexts.specs.declared.contexts.MarkContext.TheVariants as marked
 use Rattle.hir_number.specs.Naming.{Naming}
 use Rattle.hir_number.specs.Numbers.{signature_numbers}
 use Rattle.hir_number.specs.Signatures.{field_uses}
@@ -30,10 +32,14 @@ use Rattle.bridge_measure.proofs.NameLemmas.{one_lifetime_fine, s_fine, x_fine}
 use Rattle.bridge_measure.proofs.UseLemmas.{fields_fit, fields_if, fields_numbered, struct_if}
 
 -- what they have beside their types
-heads_fine : (backend : Backend) (first : Bool) (k : ℕ) → field_heads_errors backend (fields_if first k) ≡ []
-heads_fine backend true k = ap (λ errors. (errors ++ []) ++ []) x_fine
+heads_fine : (backend : Backend) (first : Bool) (k : ℕ) → field_heads_errors backend marked.Field (fields_if first k) ≡ []
+heads_fine backend true k =
+    ap (λ told. (name_errors (codes "x") ++ (told ++ [])) ++ []) (part_tested backend marked.Field)
+    ∙ ap (λ errors. (errors ++ []) ++ []) x_fine
 heads_fine backend false k =
-    ap (λ errors. (errors ++ []) ++ ((name_errors (codes "s") ++ []) ++ [])) x_fine ∙ ap (λ errors. (errors ++ []) ++ []) s_fine
+    ap (λ told. (name_errors (codes "x") ++ (told ++ [])) ++ ((name_errors (codes "s") ++ (told ++ [])) ++ [])) (part_tested backend marked.Field)
+    ∙ ap (λ errors. (errors ++ []) ++ ((name_errors (codes "s") ++ []) ++ [])) x_fine
+    ∙ ap (λ errors. (errors ++ []) ++ []) s_fine
 
 module _ (count : ℕ) (names : Naming) (catalog : Catalog) (known : AreAsMade count names catalog) (backend : Backend) (config : LoweringConfig) where
   -- ---- their types, by themselves
@@ -77,5 +83,5 @@ module _ (count : ℕ) (names : Naming) (catalog : Catalog) (known : AreAsMade c
 
   pub fields_fine : (first : Bool) (k : ℕ) → k < count → fields_errors backend catalog names (struct_if first k) ≡ []
   fields_fine first k within =
-      both_empty (field_heads_errors backend (fields_if first k)) (types_errors (struct_type_errors backend.supports catalog) names (struct_if first k))
+      both_empty (field_heads_errors backend marked.Field (fields_if first k)) (types_errors (struct_type_errors backend.supports catalog) names (struct_if first k))
       (heads_fine backend first k) (types_fine first k within)

@@ -11,6 +11,7 @@ use Rattle.bridge_grid.specs.Params.{param_faults}
 use Rattle.bridge_grid.specs.Returns.{returned_faults}
 use Rattle.bridge_grid.specs.Telling.{fault_error}
 use Rattle.bridge_grid.specs.declared.fault.TypeFault.TheVariants.{Denied}
+use Rattle.bridge_measure.proofs.MarkLemmas.{function_tested, part_tested}
 use Rattle.bridge_order.specs.declared.catalog.Catalog.{Catalog}
 use Rattle.bridge_rules.specs.declared.position.Position.TheVariants as position
 use Rattle.hir_attrs.specs.Reading.{marks_of}
@@ -23,7 +24,10 @@ use Rattle.hir_config.specs.declared.config.LoweringConfig.{LoweringConfig}
 use Rattle.hir_form.specs.SignatureForms.{signature_faults}
 use Rattle.hir_heads.specs.Heads.{lifetime_errors}
 use Rattle.hir_heads.specs.Names.{name_errors}
+use Rattle.hir_items.specs.Inheriting.{item_start}
 use Rattle.hir_life.specs.declared.maybe_static.MaybeStatic.TheVariants.{NonStatic}
+use Rattle.hir_mark_contexts.specs.Told.{tested_errors}
+use Rattle.hir_mark_contexts.specs.declared.contexts.MarkContext.TheVariants as marked
 use Rattle.hir_methods.specs.Functions.{callable_errors, function_errors}
 use Rattle.hir_methods.specs.Types.{function_type_errors}
 use Rattle.hir_methods.specs.Untyped.{each_untyped_errors, heading_errors}
@@ -57,6 +61,7 @@ nothing_written k = ap written_level (out_reference (Named (codes "b")) Immutabl
 params_fine : (backend : Backend) (k : ℕ) → each_untyped_errors backend (without_writer (params_of k)) ≡ []
 params_fine backend k =
     ap (each_untyped_errors backend) (no_writer k)
+    ∙ ap (λ told. (name_errors (codes "p") ++ told) ++ ((name_errors (codes "q") ++ told) ++ [])) (part_tested backend marked.Param)
     ∙ ap (λ errors. (errors ++ []) ++ ((name_errors (codes "q") ++ []) ++ [])) p_fine
     ∙ ap (λ errors. (errors ++ []) ++ []) q_fine
 
@@ -110,7 +115,9 @@ module _ (count : ℕ) (names : Naming) (catalog : Catalog) (known : AreAsMade c
         (both_empty (map fault_error (free_function_faults support)) (each_untyped_errors backend (without_writer (params_of k)))
         (ap (map fault_error) (free_functions_fine support on)) (params_fine backend k)) types_fine
 
-    pub function_fine : k < 2 ^ 64 → (parent : Attrs) → function_errors backend support config catalog names parent (function_numbered k) ≡ []
-    function_fine fits parent =
-        both_empty (heading_errors backend (function_numbered k).docs (function_name k) (function_name k) two_lifetimes) _ (heading_fine backend k fits)
-        (unless_empty (marks_of backend plain_attrs parent).disable (callable_errors backend support config catalog names (function_numbered k)) callable_fine)
+    pub function_fine : k < 2 ^ 64 → (set : Attrs) → function_errors backend support config catalog names (item_start set) (function_numbered k) ≡ []
+    function_fine fits set =
+        let tested = tested_errors backend marked.Function plain_attrs (item_start set) in
+        let heading = heading_errors backend (function_numbered k).docs (function_name k) (function_name k) two_lifetimes in
+        both_empty (tested ++ heading) _ (both_empty tested heading (function_tested backend set) (heading_fine backend k fits))
+        (unless_empty (marks_of backend plain_attrs (item_start set)).disable (callable_errors backend support config catalog names (function_numbered k)) callable_fine)

@@ -12,6 +12,7 @@ pub mod ListedLemmas
 pub mod IdentLemmas
 pub mod NameLemmas
 pub mod EmptyLemmas
+pub mod MarkLemmas
 pub mod FilledLemmas
 pub mod FaultLemmas
 pub mod FieldLemmas

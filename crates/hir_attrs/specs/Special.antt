@@ -99,6 +99,26 @@ special_of kind.SubAssign name = method.SubAssign
 special_of kind.MulAssign name = method.MulAssign
 special_of kind.DivAssign name = method.DivAssign
 
+-- the kind of a special method
+unfoldable pub special_kind : SpecialMethod → SpecialKind
+special_kind method.Constructor = kind.Constructor
+special_kind (method.NamedConstructor _) = kind.NamedConstructor
+special_kind (method.Getter _) = kind.Getter
+special_kind (method.Setter _) = kind.Setter
+special_kind method.Stringifier = kind.Stringifier
+special_kind (method.Comparison _) = kind.Comparison
+special_kind method.Iterator = kind.Iterator
+special_kind method.Iterable = kind.Iterable
+special_kind method.Indexer = kind.Indexer
+special_kind method.Add = kind.Add
+special_kind method.Sub = kind.Sub
+special_kind method.Mul = kind.Mul
+special_kind method.Div = kind.Div
+special_kind method.AddAssign = kind.AddAssign
+special_kind method.SubAssign = kind.SubAssign
+special_kind method.MulAssign = kind.MulAssign
+special_kind method.DivAssign = kind.DivAssign
+
 -- the operator that a special method overloads
 unfoldable pub operator_text : SpecialMethod → Option (List ℕ)
 operator_text method.Constructor = None

@@ -56,5 +56,6 @@ pub use hir_reports::{
     ErrorAndContext, ErrorContext, ErrorStore, LoweringError, LoweringReport, Rule,
 };
 pub use includes::{IncludeLocation, IncludeSource};
-pub use special::{MarkFault, SpecialMethod};
+pub use names::MarkName;
+pub use special::{MarkFault, SpecialKind, SpecialMethod};
 pub use values::DefaultArgValue;

@@ -82,7 +82,7 @@ impl MarkName {
 
     /// All of them.
     #[tactic(auto, unfolding(crate::specs::Marks::every_mark))]
-    fn all() -> &'static [MarkName]
+    pub fn all() -> &'static [MarkName]
         ensures { result.now ≡ every_mark }
     {
         &[
@@ -112,7 +112,7 @@ impl MarkName {
 
     /// The flag that a backend needs for the mark, where it needs one that `check_string` hasn't.
     #[tactic(auto, unfolding(crate::specs::Marks::mark_flag))]
-    pub fn flag(self) -> Option<SupportFlag>
+    pub(crate) fn flag(self) -> Option<SupportFlag>
         ensures { result ≡ mark_flag self }
     {
         match self {
@@ -135,7 +135,7 @@ impl MarkName {
 
     /// What the mark takes and does.
     #[tactic(auto, unfolding(crate::specs::Marks::mark_form))]
-    pub fn form(self) -> Form
+    pub(crate) fn form(self) -> Form
         ensures { result ≡ mark_form self }
     {
         match self {
@@ -158,7 +158,7 @@ impl MarkName {
 
     /// Whether the mark can't stand under `auto`.
     #[tactic(auto, unfolding(crate::specs::Marks::refuses_auto))]
-    pub fn refuses_auto(self) -> bool
+    pub(crate) fn refuses_auto(self) -> bool
         ensures { result ≡ refuses_auto self }
     {
         match self {
@@ -181,7 +181,7 @@ impl MarkName {
 
     /// Whether the mark's field is set.
     #[tactic(auto, unfolding(crate::specs::Marks::is_set))]
-    pub fn is_set(self, attrs: &Attrs) -> bool
+    pub(crate) fn is_set(self, attrs: &Attrs) -> bool
         ensures { result ≡ is_set self attrs.now }
     {
         match self {

@@ -4,12 +4,12 @@ mod kind;
 
 ghost use Rattle.std.specs.Prelude.{◌≡◌, ◌↔◌, IfOk, IsErrOf, option_map};
 ghost use Rattle.std.specs.Option.{option_copied};
-ghost use Rattle.hir_attrs.specs.Special.{as_reading, given_to, operator_text, special_of, special_reading};
+ghost use Rattle.hir_attrs.specs.Special.{as_reading, given_to, special_kind, operator_text, special_of, special_reading};
 ghost use Rattle.hir_attrs.specs.declared.special.MarkFault.{MarkFault};
 ghost use Rattle.hir_attrs.specs.Special.SpecialReading.{WrongArgument};
 
 use bridge_decl::{Lit, Meta, MetaValue, NoMemory, Text, clone_option};
-use kind::SpecialKind;
+pub use kind::SpecialKind;
 use std::alloc::{AllocError, Global};
 use thiserror::Error;
 
@@ -169,6 +169,32 @@ impl SpecialMethod {
             SpecialMethod::SubAssign => Some("-="),
             SpecialMethod::MulAssign => Some("*="),
             SpecialMethod::DivAssign => Some("/="),
+        }
+    }
+
+    /// Its kind, by which a mark spells it.
+    #[tactic(auto, unfolding(crate::specs::Special::special_kind))]
+    pub fn kind(&self) -> SpecialKind
+        ensures { result ≡ special_kind self.now }
+    {
+        match self {
+            SpecialMethod::Constructor => SpecialKind::Constructor,
+            SpecialMethod::NamedConstructor(_) => SpecialKind::NamedConstructor,
+            SpecialMethod::Getter(_) => SpecialKind::Getter,
+            SpecialMethod::Setter(_) => SpecialKind::Setter,
+            SpecialMethod::Stringifier => SpecialKind::Stringifier,
+            SpecialMethod::Comparison(_) => SpecialKind::Comparison,
+            SpecialMethod::Iterator => SpecialKind::Iterator,
+            SpecialMethod::Iterable => SpecialKind::Iterable,
+            SpecialMethod::Indexer => SpecialKind::Indexer,
+            SpecialMethod::Add => SpecialKind::Add,
+            SpecialMethod::Sub => SpecialKind::Sub,
+            SpecialMethod::Mul => SpecialKind::Mul,
+            SpecialMethod::Div => SpecialKind::Div,
+            SpecialMethod::AddAssign => SpecialKind::AddAssign,
+            SpecialMethod::SubAssign => SpecialKind::SubAssign,
+            SpecialMethod::MulAssign => SpecialKind::MulAssign,
+            SpecialMethod::DivAssign => SpecialKind::DivAssign,
         }
     }
 

@@ -4,7 +4,7 @@ use Rattle.std.specs.Prelude.{IfOk, OnErr, OnOk}
 use Rattle.bridge_grid.specs.Telling.{fault_error}
 use Rattle.bridge_grid.specs.declared.fault.TypeFault.{TypeFault}
 use Rattle.hir_form.specs.Judging.{IsJudged}
-use Rattle.hir_heads.proofs.Stores.{added_keeps}
+use Rattle.hir_mark_contexts.proofs.Stores.{added_keeps}
 use Rattle.hir_reports.proofs.StoreLaws.{added_more}
 use Rattle.hir_reports.specs.Store.{Held, Keeps, added}
 use Rattle.hir_reports.specs.declared.report.LoweringError.{LoweringError}

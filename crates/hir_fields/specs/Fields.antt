@@ -17,6 +17,7 @@ use Rattle.hir_docs.specs.Docs.{docs_for}
 use Rattle.hir_form.specs.ParamForms.{field_form, out_type_form}
 use Rattle.hir_ids.specs.declared.owners.Borrow.{Borrow}
 use Rattle.hir_ids.specs.declared.owners.MaybeOwn.{MaybeOwn}
+use Rattle.hir_mark_contexts.specs.declared.contexts.MarkContext.TheVariants as marked
 use Rattle.hir_number.specs.Naming.{Naming}
 use Rattle.hir_reports.specs.declared.report.LoweringError.{LoweringError}
 use Rattle.hir_types.specs.declared.callbacks.NoCallback.{NoCallback}
@@ -42,11 +43,11 @@ out_type_errors support catalog name ty = map fault_error (type_faults support c
 
 -- the fields of a struct: what they have beside types, and then their types
 abbrev pub fields_errors : Backend → Catalog → Naming → Struct → List LoweringError
-fields_errors backend catalog names item = field_heads_errors backend item.fields ++ types_errors (struct_type_errors backend.supports catalog) names item
+fields_errors backend catalog names item = field_heads_errors backend marked.Field item.fields ++ types_errors (struct_type_errors backend.supports catalog) names item
 
 -- those of an out-struct
 abbrev pub out_fields_errors : Backend → Catalog → Naming → Struct → List LoweringError
-out_fields_errors backend catalog names item = field_heads_errors backend item.fields ++ types_errors (out_type_errors backend.supports catalog) names item
+out_fields_errors backend catalog names item = field_heads_errors backend marked.OutStructField item.fields ++ types_errors (out_type_errors backend.supports catalog) names item
 
 -- ---- what they stand for
 

@@ -9,12 +9,13 @@ use Rattle.hir_attrs.specs.declared.attrs.Attrs.{Attrs}
 use Rattle.hir_backends.specs.Backend.{Backend}
 use Rattle.hir_definitions.specs.declared.definitions.EnumVariant.{EnumVariant}
 use Rattle.hir_docs.specs.Docs.{docs_for}
+use Rattle.hir_mark_contexts.specs.declared.contexts.MarkContext.TheVariants as marked
 use Rattle.hir_reports.specs.declared.report.LoweringError.{LoweringError}
 use Rattle.hir_fields.specs.Heads.{head_errors}
 
 -- its name, marks and documents: the marks start from what a variant takes over from the set of the enum
 abbrev pub variant_errors : Backend → Attrs → Variant → List LoweringError
-variant_errors backend enum_set variant = head_errors backend (inherited enum_set context.Variant) variant.name variant.docs variant.attrs
+variant_errors backend enum_set variant = head_errors backend marked.EnumVariant (inherited enum_set context.Variant) variant.name variant.docs variant.attrs
 
 -- each by itself, in order
 abbrev pub variants_errors : Backend → Attrs → List Variant → List LoweringError

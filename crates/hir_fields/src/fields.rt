@@ -19,6 +19,7 @@ use bridge_decl::{Items, NoMemory, Struct};
 use bridge_rules::Catalog;
 use hir_backends::AttributeValidator;
 use hir_definitions::{OutStructField, StructField};
+use hir_mark_contexts::MarkContext;
 use hir_reports::ErrorStore;
 use hir_types::Everywhere;
 use std::alloc::Global;
@@ -29,6 +30,7 @@ fn lower_kind<K: FieldKind, V: AttributeValidator>(
     env: &Env,
     number: usize,
     item: &Struct,
+    context: MarkContext,
     catalog: &Catalog,
     validator: &V,
     errors: &mut ErrorStore<'_>,
@@ -37,12 +39,12 @@ fn lower_kind<K: FieldKind, V: AttributeValidator>(
     requires sound { IsSoundEnvironment item.now.lifetimes }
     ensures told { (names : Naming) → IsNaming env.now number names
         → OnOk result (errors.new ≡ added errors.old
-        (field_heads_errors (V.meaning validator.now) item.now.fields
+        (field_heads_errors (V.meaning validator.now) context item.now.fields
         ++ types_errors (K.type_errors (V.meaning validator.now).supports catalog.now)
         names item.now)) }
     ensures given { (names : Naming) → IsNaming env.now number names
         → IfOk result (StandsUnlessTold (lifetime_errors item.now.lifetimes
-        ++ (field_heads_errors (V.meaning validator.now) item.now.fields
+        ++ (field_heads_errors (V.meaning validator.now) context item.now.fields
         ++ types_errors (K.type_errors (V.meaning validator.now).supports catalog.now)
         names item.now))
         (option_map (kind_fields K.field (V.meaning validator.now) item.now.fields)
@@ -52,7 +54,7 @@ fn lower_kind<K: FieldKind, V: AttributeValidator>(
     ensures kept { (earlier : Held) → Keeps earlier errors.old → Keeps earlier errors.new }
 {
     let support = validator.attrs_supported();
-    let heads = lower_heads(alloc, item.fields.as_slice(), validator, errors)?;
+    let heads = lower_heads(alloc, item.fields.as_slice(), context, validator, errors)?;
     let types = lower_types::<K>(alloc, env, number, item, &support, catalog, errors)?;
     K::join(alloc, heads, types)
 }
@@ -83,7 +85,10 @@ pub fn lower_fields<V: AttributeValidator>(
         → IfOk result (λ made. IsNone made) }
     ensures kept { (earlier : Held) → Keeps earlier errors.old → Keeps earlier errors.new }
 {
-    lower_kind::<OfStruct, V>(alloc, env, number, item, catalog, validator, errors)
+    let context = MarkContext::Field;
+    lower_kind::<OfStruct, V>(
+        alloc, env, number, item, context, catalog, validator, errors,
+    )
 }
 
 /// The fields of an out-struct; else as [`lower_fields`], but for the layout of their types, which
@@ -110,5 +115,8 @@ pub fn lower_out_fields<V: AttributeValidator>(
         → IfOk result (λ made. IsNone made) }
     ensures kept { (earlier : Held) → Keeps earlier errors.old → Keeps earlier errors.new }
 {
-    lower_kind::<OfOutStruct, V>(alloc, env, number, item, catalog, validator, errors)
+    let context = MarkContext::OutStructField;
+    lower_kind::<OfOutStruct, V>(
+        alloc, env, number, item, context, catalog, validator, errors,
+    )
 }

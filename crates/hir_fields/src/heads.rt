@@ -12,6 +12,7 @@ use bridge_decl::{Field, IdentBuf, Items, NoMemory, Text};
 use hir_attrs::Attrs;
 use hir_backends::AttributeValidator;
 use hir_heads::{Notes, lower_ident, lower_notes};
+use hir_mark_contexts::MarkContext;
 use hir_reports::ErrorStore;
 use std::alloc::Global;
 
@@ -31,19 +32,20 @@ pub fn lower_head<V: AttributeValidator>(
     name: &Text,
     docs: &bridge_decl::Docs,
     attrs: &bridge_decl::Attrs,
+    context: MarkContext,
     start: Attrs,
     validator: &V,
     errors: &mut ErrorStore<'_>,
 ) -> Result<Option<Head>, NoMemory>
     ensures told { OnOk result (errors.new ≡ added errors.old
-        (head_errors (V.meaning validator.now) start name.now docs.now attrs.now)) }
+        (head_errors (V.meaning validator.now) context start name.now docs.now attrs.now)) }
     ensures made { IfOk result (MadeUnlessTold
-        (head_errors (V.meaning validator.now) start name.now docs.now attrs.now)
+        (head_errors (V.meaning validator.now) context start name.now docs.now attrs.now)
         (head_form (V.meaning validator.now) start name.now docs.now attrs.now)) }
     ensures kept { (earlier : Held) → Keeps earlier errors.old → Keeps earlier errors.new }
 {
     let name = lower_ident(alloc, name, errors)?;
-    let notes = lower_notes(alloc, docs, attrs, start, validator, errors)?;
+    let notes = lower_notes(alloc, docs, attrs, context, start, validator, errors)?;
     match name {
         Some(name) => Ok(Some(Head { name, notes })),
         None => Ok(None),
@@ -54,13 +56,14 @@ pub fn lower_head<V: AttributeValidator>(
 pub fn lower_heads<V: AttributeValidator>(
     alloc: Global,
     fields: &[Field],
+    context: MarkContext,
     validator: &V,
     errors: &mut ErrorStore<'_>,
 ) -> Result<Option<Items<Head>>, NoMemory>
     ensures told { OnOk result (errors.new ≡ added errors.old
-        (field_heads_errors (V.meaning validator.now) fields.now)) }
+        (field_heads_errors (V.meaning validator.now) context fields.now)) }
     ensures made { IfOk result (MadeUnlessTold
-        (field_heads_errors (V.meaning validator.now) fields.now)
+        (field_heads_errors (V.meaning validator.now) context fields.now)
         (map (field_head (V.meaning validator.now)) fields.now)) }
     ensures each { IfOk result
         (λ made. IfSome made (λ heads. length heads ≡ length fields.now)) }
@@ -74,6 +77,7 @@ pub fn lower_heads<V: AttributeValidator>(
             &field.name,
             &field.docs,
             &field.attrs,
+            context,
             start,
             validator,
             errors,

@@ -13,6 +13,7 @@ use hir_attrs::Attrs;
 use hir_backends::AttributeValidator;
 use hir_definitions::EnumVariant;
 use hir_heads::Notes;
+use hir_mark_contexts::MarkContext;
 use hir_reports::ErrorStore;
 use std::alloc::Global;
 
@@ -50,6 +51,7 @@ fn lower_variant<V: AttributeValidator>(
         &variant.name,
         &variant.docs,
         &variant.attrs,
+        MarkContext::EnumVariant,
         start,
         validator,
         errors,

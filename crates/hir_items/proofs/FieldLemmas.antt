@@ -23,6 +23,7 @@ use Rattle.hir_form.proofs.OutLemmas.{OutField}
 use Rattle.hir_form.proofs.ParamLemmas.{accepts_out, field_given}
 use Rattle.hir_form.specs.ParamForms.{all_given, field_form, out_type_form}
 use Rattle.hir_heads.specs.Heads.{lifetime_errors}
+use Rattle.hir_mark_contexts.specs.declared.contexts.MarkContext.TheVariants as marked
 use Rattle.hir_number.proofs.ElisionLemmas.{fields_elided, none_of}
 use Rattle.hir_number.proofs.FaultLemmas.{FineBy, IsLowered, answers_lowered}
 use Rattle.hir_number.specs.Breaches.{Broken, field_breaches}
@@ -120,7 +121,7 @@ fields_formed backend catalog names item named none =
     (λ name ty untold.
     let faults = type_faults backend.supports catalog position.Field Whole ty in
     field_given backend.supports catalog ty (unfaulted faults (none_of (safety_errors name ty) (map fault_error faults) untold).1))
-    names item named (none_of (field_heads_errors backend item.fields) (types_errors (struct_type_errors backend.supports catalog) names item) none).1)
+    names item named (none_of (field_heads_errors backend marked.Field item.fields) (types_errors (struct_type_errors backend.supports catalog) names item) none).1)
 
 -- of an out-struct
 pub out_fields_formed :
@@ -130,4 +131,4 @@ out_fields_formed backend catalog names item named none =
     map_given (fields_with backend item.fields) (field_types_form (out_type_form catalog) names item)
     (types_formed (out_type_errors backend.supports catalog) (out_type_form catalog)
     (λ name ty untold. accepts_out _ _ _ OutField backend.supports catalog Whole ty (unfaulted (type_faults backend.supports catalog position.OutField Whole ty) untold))
-    names item named (none_of (field_heads_errors backend item.fields) (types_errors (out_type_errors backend.supports catalog) names item) none).1)
+    names item named (none_of (field_heads_errors backend marked.OutStructField item.fields) (types_errors (out_type_errors backend.supports catalog) names item) none).1)

@@ -12,6 +12,7 @@ use Rattle.hir_docs.specs.Docs.{docs_for}
 use Rattle.hir_fields.specs.Variants.{variants_errors, variants_form}
 use Rattle.hir_heads.specs.Heads.{notes_errors}
 use Rattle.hir_heads.specs.Names.{name_errors}
+use Rattle.hir_mark_contexts.specs.declared.contexts.MarkContext.TheVariants as marked
 use Rattle.hir_reports.specs.declared.report.LoweringError.{LoweringError}
 use Rattle.hir_reports.specs.declared.report.LoweringReport.{LoweringReport}
 use Rattle.hir_items.specs.Inheriting.{item_marks, item_start}
@@ -28,7 +29,7 @@ enum_own_errors backend marks item = name_errors item.name ++ variants_errors ba
 -- what its marks break, the conditions of its documents, and that
 abbrev pub enum_errors : Backend → Attrs → Enum → List LoweringError
 enum_errors backend module_set item =
-    notes_errors backend (item_start module_set) item.docs item.attrs
+    notes_errors backend marked.Enum (item_start module_set) item.docs item.attrs
     ++ enum_own_errors backend (item_marks backend module_set item.attrs) item
 
 -- at the enum itself, and then at each method of an enabled one

@@ -14,6 +14,7 @@ use Rattle.hir_elide.specs.Numbering.{most}
 use Rattle.hir_heads.specs.Heads.{lifetime_errors, notes_errors}
 use Rattle.hir_heads.specs.Names.{name_errors}
 use Rattle.hir_life.specs.Declarations.{declared_environment}
+use Rattle.hir_mark_contexts.specs.declared.contexts.MarkContext.TheVariants as marked
 use Rattle.hir_reports.specs.Texts.{plain_error}
 use Rattle.hir_reports.specs.declared.report.LoweringError.{LoweringError}
 use Rattle.hir_reports.specs.declared.report.LoweringReport.{LoweringReport}
@@ -41,7 +42,7 @@ opaque_own_errors marks item =
 -- what its marks break, the conditions of its documents, and that
 abbrev pub opaque_errors : Backend → Attrs → OpaqueType → List LoweringError
 opaque_errors backend module_set item =
-    notes_errors backend (item_start module_set) item.docs item.attrs
+    notes_errors backend marked.Opaque (item_start module_set) item.docs item.attrs
     ++ opaque_own_errors (item_marks backend module_set item.attrs) item
 
 -- at the opaque itself, and then at each method of an enabled one

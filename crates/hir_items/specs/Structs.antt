@@ -19,6 +19,7 @@ use Rattle.hir_heads.specs.Names.{name_errors}
 use Rattle.hir_ids.specs.declared.owners.Borrow.{Borrow}
 use Rattle.hir_ids.specs.declared.owners.MaybeOwn.{MaybeOwn}
 use Rattle.hir_life.specs.Declarations.{declared_environment}
+use Rattle.hir_mark_contexts.specs.declared.contexts.MarkContext.TheVariants as marked
 use Rattle.hir_reports.specs.Texts.{plain_error}
 use Rattle.hir_reports.specs.declared.report.LoweringError.{LoweringError}
 use Rattle.hir_reports.specs.declared.report.LoweringReport.{LoweringReport}
@@ -60,12 +61,12 @@ out_struct_own_errors s marks item =
 -- what its marks break, the conditions of its documents, and that
 abbrev pub struct_errors : Setting → Attrs → Struct → List LoweringError
 struct_errors s module_set item =
-    notes_errors s.backend (item_start module_set) item.docs item.attrs
+    notes_errors s.backend marked.Struct (item_start module_set) item.docs item.attrs
     ++ struct_own_errors s (item_marks s.backend module_set item.attrs) item
 
 abbrev pub out_struct_errors : Setting → Attrs → Struct → List LoweringError
 out_struct_errors s module_set item =
-    notes_errors s.backend (item_start module_set) item.docs item.attrs
+    notes_errors s.backend marked.OutStruct (item_start module_set) item.docs item.attrs
     ++ out_struct_own_errors s (item_marks s.backend module_set item.attrs) item
 
 -- at the struct itself, and then at each method of an enabled one

@@ -26,6 +26,7 @@ use hir_definitions::{EnumDef, EnumVariant, Method, SpecialMethodPresence, Typin
 use hir_fields::lower_variants;
 use hir_heads::{Notes, lower_ident};
 use hir_ids::Ident;
+use hir_mark_contexts::MarkContext;
 use hir_methods::paired;
 use hir_reports::ErrorStore;
 use std::alloc::Global;
@@ -114,7 +115,8 @@ fn lower_here<'tree, V: AttributeValidator>(
     ensures kept { HoldsStill errors.old errors.new }
 {
     errors.set_item(item.name.as_str());
-    let notes = lower_type_notes(lent, module_set, &item.docs, &item.attrs, errors)?;
+    let context = MarkContext::Enum;
+    let notes = lower_type_notes(lent, module_set, context, &item.docs, &item.attrs, errors)?;
     let own = lower_own(lent, &notes.attrs, item, errors)?;
     let methods = item.methods.as_slice();
     let methods = lower_type_methods(lent, place, module_set, &notes.attrs, methods, errors);

@@ -15,26 +15,37 @@ use hir_attrs::Attrs;
 use hir_backends::AttributeValidator;
 use hir_heads::{Notes, lower_ident, lower_lifetimes, lower_notes};
 use hir_life::LifetimeEnv;
+use hir_mark_contexts::MarkContext;
 use hir_methods::paired;
 use hir_reports::ErrorStore;
 use std::alloc::Global;
 
-/// The marks and the documents of a type. The marks start from what it takes over of its module's.
+/// The marks and the documents of a type of a kind. The marks start from what it takes over of its module's.
 pub(crate) fn lower_type_notes<V: AttributeValidator>(
     lent: &Lowering<'_, V>,
     module_set: &Attrs,
+    context: MarkContext,
     docs: &bridge_decl::Docs,
     attrs: &bridge_decl::Attrs,
     errors: &mut ErrorStore<'_>,
 ) -> Result<Notes, NoMemory>
     ensures told { OnOk result (errors.new ≡ added errors.old (notes_errors
-        (V.meaning lent.now.validator.now) (item_start module_set.now) docs.now attrs.now)) }
+        (V.meaning lent.now.validator.now) context (item_start module_set.now)
+        docs.now attrs.now)) }
     ensures made { IfOk result (λ notes. notes ≡ notes_form
         (V.meaning lent.now.validator.now) (item_start module_set.now) docs.now attrs.now) }
     ensures kept { (earlier : Held) → Keeps earlier errors.old → Keeps earlier errors.new }
 {
     let start = module_set.for_inheritance(lent.alloc, AttrInheritContext::OfType)?;
-    lower_notes(lent.alloc, docs, attrs, start, lent.validator, errors)
+    lower_notes(
+        lent.alloc,
+        docs,
+        attrs,
+        context,
+        start,
+        lent.validator,
+        errors,
+    )
 }
 
 /// A name with lifetimes.

@@ -33,6 +33,7 @@ use hir_definitions::{
 use hir_fields::{lower_fields, lower_out_fields};
 use hir_heads::Notes;
 use hir_ids::Ident;
+use hir_mark_contexts::MarkContext;
 use hir_methods::paired;
 use hir_reports::{ErrorStore, Rule};
 use hir_types::{Everywhere, OutputOnly, TyPosition};
@@ -205,7 +206,8 @@ fn struct_here<'tree, V: AttributeValidator>(
     ensures kept { HoldsStill errors.old errors.new }
 {
     errors.set_item(item.name.as_str());
-    let notes = lower_type_notes(lent, module_set, &item.docs, &item.attrs, errors)?;
+    let context = MarkContext::Struct;
+    let notes = lower_type_notes(lent, module_set, context, &item.docs, &item.attrs, errors)?;
     let own = struct_itself(lent, place.module, &notes.attrs, item, errors)?;
     let methods = item.methods.as_slice();
     let methods = lower_type_methods(lent, place, module_set, &notes.attrs, methods, errors);
@@ -327,7 +329,8 @@ fn out_struct_here<'tree, V: AttributeValidator>(
     ensures kept { HoldsStill errors.old errors.new }
 {
     errors.set_item(item.name.as_str());
-    let notes = lower_type_notes(lent, module_set, &item.docs, &item.attrs, errors)?;
+    let context = MarkContext::OutStruct;
+    let notes = lower_type_notes(lent, module_set, context, &item.docs, &item.attrs, errors)?;
     let own = out_struct_itself(lent, place.module, &notes.attrs, item, errors)?;
     let methods = item.methods.as_slice();
     let methods = lower_type_methods(lent, place, module_set, &notes.attrs, methods, errors);

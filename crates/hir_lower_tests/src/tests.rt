@@ -10,6 +10,7 @@ mod disabled;
 mod frames;
 mod keys;
 mod lifetimes;
+mod marked;
 mod marks;
 mod names;
 mod nesting;

@@ -7,4 +7,5 @@ pub mod ReadingLemmas
 pub mod ToldLemmas
 pub mod BreakLemmas
 pub mod MarksLemmas
+pub mod ContextLemmas
 pub mod DocsLemmas

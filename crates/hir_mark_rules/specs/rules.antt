@@ -9,3 +9,5 @@ pub mod BadInclude
 pub mod IncludeRepeated
 pub mod BadDefaultValue
 pub mod UnknownMark
+pub mod MarkMisplaced
+pub mod IncludeUnsupported

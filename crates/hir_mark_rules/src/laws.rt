@@ -13,6 +13,9 @@ ghost use Rattle.hir_attrs.specs.Includes.{include_of};
 ghost use Rattle.hir_attrs.specs.Reading.{marks_errors};
 ghost use Rattle.hir_attrs.specs.Values.{default_of};
 ghost use Rattle.hir_docs.specs.Docs.{docs_errors};
+ghost use Rattle.hir_mark_contexts.specs.Told.{context_errors};
+ghost use Rattle.hir_mark_contexts.specs.declared.contexts.MarkContext.{MarkContext};
+ghost use Rattle.hir_mark_rules.specs.ContextBreaks.{ContextBreaks};
 ghost use Rattle.hir_mark_rules.specs.MarkBreaks.{DocsBreak, MarksBreak};
 ghost use Rattle.hir_mark_rules.specs.rules.BadDefaultValue.{IsBadDefault};
 ghost use Rattle.hir_mark_rules.specs.rules.BadInclude.{IsBadInclude};
@@ -23,6 +26,13 @@ pub fn marks_are_told_by_their_rules()
     ensures { (backend : Backend) (declared : Declared) (parent : Attrs) (error : LoweringError)
         → Contains (marks_errors backend declared parent) error
         ↔ MarksBreak backend declared parent error }
+{}
+
+/// What is told of a set of marks by what is marked with it is what breaks a rule there, and nothing else.
+pub fn contexts_are_told_by_their_rules()
+    ensures { (backend : Backend) (context : MarkContext) (attrs : Attrs)
+        (error : LoweringError) → Contains (context_errors backend context attrs) error
+        ↔ ContextBreaks backend context attrs error }
 {}
 
 /// What is told of documents is what breaks a rule: the condition of each block that does.

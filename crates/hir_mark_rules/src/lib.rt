@@ -38,6 +38,13 @@
 //! those before it made (`MarksBreak`). That this is what is told, and nothing else, is the law
 //! [`marks_are_told_by_their_rules`].
 //!
+//! # What is marked
+//!
+//! Not every mark may stand everywhere. What the set of a declaration breaks by the kind of what is marked, its context, says
+//! `ContextBreaks` of `specs/ContextBreaks`: a mark that has no use there (`MarkMisplaced`), or included code that the backend
+//! doesn't support (`IncludeUnsupported`). So `mut_struct_ref` on an opaque is misplaced. That this is what is told is the law
+//! [`contexts_are_told_by_their_rules`].
+//!
 //! # Documents
 //!
 //! A block of documents stands under a condition too, in which `auto` isn't allowed at all. It breaks
@@ -49,5 +56,6 @@
 mod laws;
 
 pub use laws::{
-    documents_are_told_by_their_rules, marks_are_told_by_their_rules, what_is_bad_gives_nothing,
+    contexts_are_told_by_their_rules, documents_are_told_by_their_rules,
+    marks_are_told_by_their_rules, what_is_bad_gives_nothing,
 };

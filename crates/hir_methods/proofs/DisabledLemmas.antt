@@ -2,7 +2,7 @@
 use Rattle.std.proofs.Common.{◌≡◌, List, [], ◌++◌, false, sym, ap, ◌∙◌}
 use Rattle.std.specs.Prelude.{if◌then◌else◌}
 use Rattle.hir_attrs.specs.declared.attrs.Attrs.{Attrs}
-use Rattle.hir_heads.proofs.Stores.{told_both}
+use Rattle.hir_mark_contexts.proofs.Stores.{told_both}
 use Rattle.hir_reports.specs.Store.{Held, added}
 use Rattle.hir_reports.specs.declared.report.LoweringError.{LoweringError}
 use Rattle.hir_methods.specs.Untyped.{unless_disabled}

@@ -1,7 +1,7 @@
 -- Results that are Ok.
 use Rattle.std.proofs.Common.{◌≡◌, List, Option, Result, Ok, Err, refl, sym, ap, subst}
 use Rattle.std.specs.Prelude.{IfOk, OnErr, OnOk}
-use Rattle.hir_heads.proofs.Stores.{added_keeps}
+use Rattle.hir_mark_contexts.proofs.Stores.{added_keeps}
 use Rattle.hir_reports.specs.Store.{Held, Keeps, added}
 use Rattle.hir_reports.specs.declared.report.LoweringError.{LoweringError}
 use Rattle.hir_methods.specs.Choosing.{beside, paired}

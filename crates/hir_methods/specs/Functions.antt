@@ -4,13 +4,15 @@ use Rattle.bridge_decl.specs.declared.functions.Function.{Function}
 use Rattle.bridge_grid.specs.Items.{free_function_faults}
 use Rattle.bridge_grid.specs.Telling.{fault_error}
 use Rattle.bridge_order.specs.declared.catalog.Catalog.{Catalog}
-use Rattle.hir_attrs.specs.Reading.{marks_errors, marks_of}
+use Rattle.hir_attrs.specs.Reading.{marks_of}
 use Rattle.hir_attrs.specs.declared.attrs.Attrs.{Attrs}
 use Rattle.hir_backends.specs.Backend.{Backend}
 use Rattle.hir_backends.specs.declared.support.BackendAttrSupport.{BackendAttrSupport}
 use Rattle.hir_definitions.specs.declared.methods.Method.{Method}
 use Rattle.hir_life.specs.Environment.{Environment}
 use Rattle.hir_config.specs.declared.config.LoweringConfig.{LoweringConfig}
+use Rattle.hir_mark_contexts.specs.Told.{tested_errors}
+use Rattle.hir_mark_contexts.specs.declared.contexts.MarkContext.TheVariants as marked
 use Rattle.hir_number.specs.Naming.{Naming}
 use Rattle.hir_number.specs.Signatures.{without_writer}
 use Rattle.hir_reports.specs.declared.report.LoweringError.{LoweringError}
@@ -31,7 +33,7 @@ callable_errors backend support config catalog names function =
 -- what is told of one: its marks, which start from those of its parent, its heading, and the rest unless it is disabled
 abbrev pub function_errors : Backend → BackendAttrSupport → LoweringConfig → Catalog → Naming → Attrs → Function → List LoweringError
 function_errors backend support config catalog names parent function =
-    marks_errors backend function.attrs parent
+    tested_errors backend marked.Function function.attrs parent
     ++ heading_errors backend function.docs function.name function.abi_name function.lifetimes
     ++ unless_disabled (marks_of backend function.attrs parent) (callable_errors backend support config catalog names function)
 

@@ -2,6 +2,7 @@ pub mod Writers
 pub mod Joining
 pub mod Choosing
 pub mod Untyped
+pub mod Required
 pub mod Types
 pub mod Methods
 pub mod Functions

@@ -3,17 +3,20 @@ use Rattle.std.specs.Prelude.{List, ◌++◌, Option, None, option_map, if◌the
 use Rattle.bridge_ast.specs.declared.place.ItemPlace.{ItemPlace}
 use Rattle.bridge_decl.specs.declared.methods.Method.{Method as DeclaredMethod}
 use Rattle.bridge_order.specs.declared.catalog.Catalog.{Catalog}
-use Rattle.hir_attrs.specs.Reading.{marks_errors, marks_of}
+use Rattle.hir_attrs.specs.Reading.{marks_of}
 use Rattle.hir_attrs.specs.declared.attrs.Attrs.{Attrs}
 use Rattle.hir_backends.specs.Backend.{Backend}
 use Rattle.hir_backends.specs.declared.support.BackendAttrSupport.{BackendAttrSupport}
 use Rattle.hir_definitions.specs.declared.methods.Method.{Method}
 use Rattle.hir_config.specs.declared.config.LoweringConfig.{LoweringConfig}
+use Rattle.hir_mark_contexts.specs.Told.{tested_errors}
+use Rattle.hir_mark_contexts.specs.declared.contexts.MarkContext.TheVariants as marked
+use Rattle.hir_methods.specs.Required.{method_param_errors}
 use Rattle.hir_number.specs.Naming.{Naming}
 use Rattle.hir_number.specs.Signatures.{without_writer}
 use Rattle.hir_reports.specs.declared.report.LoweringError.{LoweringError}
 use Rattle.hir_methods.specs.Types.{method_type_errors, method_types, whole_of}
-use Rattle.hir_methods.specs.Untyped.{each_untyped_errors, heading_errors, heading_form, receiver_mark_errors, receiver_marks, unless_disabled, untyped_forms}
+use Rattle.hir_methods.specs.Untyped.{heading_errors, heading_form, receiver_mark_errors, receiver_marks, unless_disabled, untyped_forms}
 
 -- what is told of an enabled one beside its own marks: of its heading, its receiver, its parameters without the trailing writer, and
 -- its types
@@ -21,13 +24,13 @@ abbrev pub enabled_errors : Backend → BackendAttrSupport → LoweringConfig �
 enabled_errors backend support config catalog names owner method =
     heading_errors backend method.docs method.name method.abi_name method.lifetime_env
     ++ receiver_mark_errors backend method.self_param
-    ++ each_untyped_errors backend (without_writer method.params)
+    ++ method_param_errors backend (without_writer method.params)
     ++ method_type_errors support config catalog names owner method
 
 -- what is told of one of the type there: its marks, which start from those of its parent, and the rest unless it is disabled
 abbrev pub method_errors : Backend → BackendAttrSupport → LoweringConfig → Catalog → Naming → ItemPlace → Attrs → DeclaredMethod → List LoweringError
 method_errors backend support config catalog names owner parent method =
-    marks_errors backend method.attrs parent
+    tested_errors backend marked.Method method.attrs parent
     ++ unless_disabled (marks_of backend method.attrs parent) (enabled_errors backend support config catalog names owner method)
 
 -- an enabled one with these marks, where its types have a form

@@ -6,12 +6,14 @@ use Rattle.bridge_decl.specs.declared.lifetimes.LifetimeEnv.{LifetimeEnv}
 use Rattle.bridge_decl.specs.declared.methods.Param.{Param as DeclaredParam}
 use Rattle.bridge_decl.specs.declared.methods.SelfParam.{SelfParam}
 use Rattle.hir_attrs.specs.Attrs.{empty_attrs}
-use Rattle.hir_attrs.specs.Reading.{marks_errors, marks_of}
+use Rattle.hir_attrs.specs.Reading.{marks_of}
 use Rattle.hir_attrs.specs.declared.attrs.Attrs.{Attrs}
 use Rattle.hir_backends.specs.Backend.{Backend}
 use Rattle.hir_docs.specs.Docs.{docs_errors, docs_for}
 use Rattle.hir_heads.specs.Heads.{lifetime_errors}
 use Rattle.hir_heads.specs.Names.{name_errors}
+use Rattle.hir_mark_contexts.specs.Told.{tested_errors}
+use Rattle.hir_mark_contexts.specs.declared.contexts.MarkContext.TheVariants as marked
 use Rattle.hir_reports.specs.declared.report.LoweringError.{LoweringError}
 use Rattle.hir_methods.specs.declared.headings.Heading.{Heading}
 use Rattle.hir_methods.specs.declared.params.UntypedParam.{UntypedParam}
@@ -34,7 +36,7 @@ heading_form backend docs name abi_name = record { docs = docs_for backend docs;
 -- its marks, which start from none
 abbrev pub receiver_mark_errors : Backend → Option SelfParam → List LoweringError
 receiver_mark_errors backend None = []
-receiver_mark_errors backend (Some receiver) = marks_errors backend receiver.attrs empty_attrs
+receiver_mark_errors backend (Some receiver) = tested_errors backend marked.SelfParam receiver.attrs empty_attrs
 
 abbrev pub receiver_marks : Backend → Option SelfParam → Option Attrs
 receiver_marks backend receiver = option_map (λ r. marks_of backend r.attrs empty_attrs) receiver
@@ -45,7 +47,7 @@ receiver_marks backend receiver = option_map (λ r. marks_of backend r.attrs emp
 abbrev pub untyped_errors : Backend → DeclaredParam → List LoweringError
 untyped_errors backend param =
     name_errors param.name
-    ++ marks_errors backend param.attrs empty_attrs
+    ++ tested_errors backend marked.Param param.attrs empty_attrs
 
 abbrev pub untyped_form : Backend → DeclaredParam → UntypedParam
 untyped_form backend param = record { name = param.name; attrs = marks_of backend param.attrs empty_attrs }

@@ -14,7 +14,6 @@ ghost use Rattle.hir_reports.specs.Store.{Held, Keeps, added};
 use crate::choosing::{beside, kept_if};
 use crate::headings::{Heading, lower_heading};
 use crate::params::lower_each_untyped;
-use crate::reading::read_marks;
 use crate::types::lower_function_types;
 use crate::whole::{gather, join_whole};
 use bridge_ast::Env;
@@ -27,13 +26,14 @@ use hir_config::LoweringConfig;
 use hir_definitions::Method;
 use hir_ids::Ident;
 use hir_life::LifetimeEnv;
+use hir_mark_contexts::{MarkContext, tested_attrs};
 use hir_number::before_writer;
 use hir_reports::ErrorStore;
 use hir_types::{ReturnType, SuccessType};
 use std::alloc::Global;
 
 /// Tells where the backend has no functions outside types.
-#[tactic(auto, using(hir_heads::proofs::Stores::added_keeps))]
+#[tactic(auto, using(hir_mark_contexts::proofs::Stores::added_keeps))]
 fn tell_free(
     alloc: Global,
     support: &BackendAttrSupport,
@@ -179,7 +179,8 @@ fn lower_marked<V: AttributeValidator>(
         (function_form (V.meaning validator.now) catalog.now names parent function.now)) }
     ensures kept { (earlier : Held) → Keeps earlier errors.old → Keeps earlier errors.new }
 {
-    let attrs = read_marks(alloc, &function.attrs, parent, validator, errors)?;
+    let context = MarkContext::Function;
+    let attrs = tested_attrs(alloc, &function.attrs, context, parent, validator, errors)?;
     let heading = lower_heading(
         alloc,
         &function.docs,

@@ -53,6 +53,7 @@ mod laws;
 mod methods;
 mod params;
 mod reading;
+mod required;
 mod types;
 mod whole;
 mod writers;

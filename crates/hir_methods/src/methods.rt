@@ -12,8 +12,8 @@ ghost use Rattle.hir_reports.specs.Store.{Held, Keeps, added};
 
 use crate::choosing::{beside, kept_if};
 use crate::headings::lower_heading;
-use crate::params::{lower_each_untyped, read_receiver};
-use crate::reading::read_marks;
+use crate::params::read_receiver;
+use crate::required::lower_method_params;
 use crate::types::lower_method_types;
 use crate::whole::{Untyped, gather, join_whole};
 use bridge_ast::{Env, ItemPlace};
@@ -23,6 +23,7 @@ use hir_attrs::Attrs;
 use hir_backends::{AttributeValidator, BackendAttrSupport};
 use hir_config::LoweringConfig;
 use hir_definitions::Method;
+use hir_mark_contexts::{MarkContext, tested_attrs};
 use hir_number::before_writer;
 use hir_reports::ErrorStore;
 use std::alloc::Global;
@@ -52,7 +53,7 @@ fn lower_untyped<V: AttributeValidator>(
     )?;
     let receiver = read_receiver(alloc, &method.self_param, validator, errors)?;
     let params = before_writer(method.params.as_slice());
-    let params = lower_each_untyped(alloc, params, validator, errors)?;
+    let params = lower_method_params(alloc, params, validator, errors)?;
     Ok(gather(heading, receiver, params))
 }
 
@@ -115,7 +116,8 @@ fn lower_marked<V: AttributeValidator>(
         (method_form (V.meaning validator.now) catalog.now names owner parent method.now)) }
     ensures kept { (earlier : Held) → Keeps earlier errors.old → Keeps earlier errors.new }
 {
-    let attrs = read_marks(alloc, &method.attrs, parent, validator, errors)?;
+    let context = MarkContext::Method;
+    let attrs = tested_attrs(alloc, &method.attrs, context, parent, validator, errors)?;
     if attrs.disable {
         return Ok(None);
     }

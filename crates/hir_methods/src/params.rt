@@ -12,6 +12,7 @@ use bridge_decl::{IdentBuf, Items, NoMemory, Param, SelfParam};
 use hir_attrs::Attrs;
 use hir_backends::AttributeValidator;
 use hir_heads::lower_ident;
+use hir_mark_contexts::MarkContext;
 use hir_reports::ErrorStore;
 use std::alloc::Global;
 
@@ -48,8 +49,9 @@ pub(crate) fn lower_untyped<V: AttributeValidator>(
         (untyped_form (V.meaning validator.now) param.now)) }
     ensures kept { (earlier : Held) → Keeps earlier errors.old → Keeps earlier errors.new }
 {
+    let context = MarkContext::Param;
     let name = lower_ident(alloc, &param.name, errors)?;
-    let attrs = read_own_marks(alloc, &param.attrs, validator, errors)?;
+    let attrs = read_own_marks(alloc, &param.attrs, context, validator, errors)?;
     Ok(named(name, attrs))
 }
 
@@ -90,7 +92,8 @@ pub(crate) fn read_receiver<V: AttributeValidator>(
 {
     match receiver {
         Some(receiver) => {
-            let attrs = read_own_marks(alloc, &receiver.attrs, validator, errors)?;
+            let context = MarkContext::SelfParam;
+            let attrs = read_own_marks(alloc, &receiver.attrs, context, validator, errors)?;
             Ok(Some(attrs))
         }
         None => Ok(None),

@@ -19,11 +19,16 @@ use Rattle.hir_docs.specs.Docs.{docs_errors}
 use Rattle.hir_heads.specs.Heads.{lifetime_errors}
 use Rattle.hir_heads.specs.Names.{name_errors}
 use Rattle.hir_items.specs.Setting.{Setting}
+use Rattle.hir_mark_contexts.specs.Told.{tested_errors}
+use Rattle.hir_mark_contexts.specs.declared.contexts.MarkContext.TheVariants as marked
 use Rattle.hir_mark_rules.proofs.DocsLemmas.{docs_exactly}
+use Rattle.hir_mark_rules.proofs.ContextLemmas.{tested_exactly}
 use Rattle.hir_mark_rules.proofs.MarksLemmas.{marks_exactly}
+use Rattle.hir_mark_rules.specs.ContextBreaks.{TestedMarksBreak}
 use Rattle.hir_mark_rules.specs.MarkBreaks.{DocsBreak, MarksBreak}
 use Rattle.hir_methods.specs.Functions.{callable_errors, function_errors}
 use Rattle.hir_methods.specs.Methods.{enabled_errors, method_errors}
+use Rattle.hir_methods.specs.Required.{method_param_errors}
 use Rattle.hir_methods.specs.Types.{function_type_errors, method_type_errors}
 use Rattle.hir_methods.specs.Untyped.{each_untyped_errors, heading_errors, receiver_mark_errors, unless_disabled}
 use Rattle.hir_number.specs.Signatures.{without_writer}
@@ -34,8 +39,10 @@ use Rattle.hir_rules.specs.Callables.{EnabledFunctionBreaks, EnabledMethodBreaks
 use Rattle.hir_rules.specs.Heads.{HeadingBreaks, IsEnabled, ParamHeadsBreak, ParamNamesBreak, ReceiverMarksBreak}
 use Rattle.hir_rules.specs.Types.{AsFaultErrors, FunctionTypesBreak, MethodTypesBreak, TraitMethodTypesBreak}
 use Rattle.hir_rules.specs.rules.BadIdent.{BadIdent, BadLifetimeIdent}
+use Rattle.hir_rules.specs.rules.RequiredAfterDefault.{RequiredAfterDefault}
 use Rattle.hir_rules.proofs.AppendLemmas.{first_none, in_four, in_three, second_none}
 use Rattle.hir_rules.proofs.HeadLemmas.{heading_exactly, lifetimes_exactly, name_exactly, param_names_exactly, params_exactly, receiver_exactly}
+use Rattle.hir_rules.proofs.RequiredLemmas.{method_params_exactly}
 use Rattle.hir_rules.proofs.TypeLemmas.{as_faults, function_types_told, method_types_told, trait_types_told}
 
 module _ (s : Setting) where
@@ -45,18 +52,18 @@ module _ (s : Setting) where
   enabled_told owner method =
       let heading = heading_errors s.backend method.docs method.name method.abi_name method.lifetime_env in
       let receiver = receiver_mark_errors s.backend method.self_param in
-      let params = each_untyped_errors s.backend (without_writer method.params) in
+      let params = method_param_errors s.backend (without_writer method.params) in
       let types = method_type_errors s.support s.config s.catalog s.names owner method in
       let Heading : LoweringError → Type 0 = HeadingBreaks s.backend method.docs method.name method.abi_name method.lifetime_env in
       let Receiver : LoweringError → Type 0 = ReceiverMarksBreak s.backend method.self_param in
-      let Params : LoweringError → Type 0 = ParamHeadsBreak s.backend (without_writer method.params) in
+      let Params : LoweringError → Type 0 = λ e. ParamHeadsBreak s.backend (without_writer method.params) e ⊎ RequiredAfterDefault s.backend (without_writer method.params) e in
       let Types : LoweringError → Type 0 = MethodTypesBreak s.support s.config s.catalog s.names owner method in
       let Given : Type 0 = ⊤ × (heading ≡ []) in
       in_four (λ told. TellsGiven ⊤ told (EnabledMethodBreaks s owner method)) heading receiver params types
       (given_after ⊤ heading (receiver ++ (params ++ types)) Heading (λ e. Receiver e ⊎ (Params e ⊎ Types e))
       (given_exactly ⊤ heading Heading (heading_exactly s.backend method.docs method.name method.abi_name method.lifetime_env))
       (given_both Given receiver (params ++ types) Receiver (λ e. Params e ⊎ Types e) (given_exactly Given receiver Receiver (receiver_exactly s.backend method.self_param))
-      (given_both Given params types Params Types (given_exactly Given params Params (params_exactly s.backend (without_writer method.params)))
+      (given_both Given params types Params Types (given_exactly Given params Params (method_params_exactly s.backend (without_writer method.params)))
       (given_more (lifetime_errors method.lifetime_env ≡ []) Given types Types
       (λ g. second_none ((docs_errors s.backend method.docs ++ name_errors method.name) ++ name_errors method.abi_name) (lifetime_errors method.lifetime_env) g.1)
       (method_types_told s.support s.config s.catalog s.names owner method)))))
@@ -65,8 +72,8 @@ module _ (s : Setting) where
   method_told owner start method =
       let marks = marks_of s.backend method.attrs start in
       let enabled = enabled_errors s.backend s.support s.config s.catalog s.names owner method in
-      given_both ⊤ (marks_errors s.backend method.attrs start) (unless_disabled marks enabled) (MarksBreak s.backend method.attrs start) (λ e. IsEnabled marks × EnabledMethodBreaks s owner method e)
-      (given_exactly ⊤ (marks_errors s.backend method.attrs start) (MarksBreak s.backend method.attrs start) (marks_exactly s.backend method.attrs start))
+      given_both ⊤ (tested_errors s.backend marked.Method method.attrs start) (unless_disabled marks enabled) (TestedMarksBreak s.backend marked.Method method.attrs start) (λ e. IsEnabled marks × EnabledMethodBreaks s owner method e)
+      (given_exactly ⊤ (tested_errors s.backend marked.Method method.attrs start) (TestedMarksBreak s.backend marked.Method method.attrs start) (tested_exactly s.backend marked.Method method.attrs start))
       (given_unless ⊤ marks.disable enabled (EnabledMethodBreaks s owner method) (enabled_told owner method))
 
   -- ---- functions
@@ -91,12 +98,12 @@ module _ (s : Setting) where
       let marks = marks_of s.backend function.attrs start in
       let heading = heading_errors s.backend function.docs function.name function.abi_name function.lifetimes in
       let callable = callable_errors s.backend s.support s.config s.catalog s.names function in
-      let Marks : LoweringError → Type 0 = MarksBreak s.backend function.attrs start in
+      let Marks : LoweringError → Type 0 = TestedMarksBreak s.backend marked.Function function.attrs start in
       let Heading : LoweringError → Type 0 = HeadingBreaks s.backend function.docs function.name function.abi_name function.lifetimes in
       let Given : Type 0 = ⊤ × (heading ≡ []) in
-      in_three (λ told. TellsGiven ⊤ told (FunctionBreaks s start function)) (marks_errors s.backend function.attrs start) heading (unless_disabled marks callable)
-      (given_both ⊤ (marks_errors s.backend function.attrs start) (heading ++ unless_disabled marks callable) Marks (λ e. Heading e ⊎ (IsEnabled marks × EnabledFunctionBreaks s function e))
-      (given_exactly ⊤ (marks_errors s.backend function.attrs start) Marks (marks_exactly s.backend function.attrs start))
+      in_three (λ told. TellsGiven ⊤ told (FunctionBreaks s start function)) (tested_errors s.backend marked.Function function.attrs start) heading (unless_disabled marks callable)
+      (given_both ⊤ (tested_errors s.backend marked.Function function.attrs start) (heading ++ unless_disabled marks callable) Marks (λ e. Heading e ⊎ (IsEnabled marks × EnabledFunctionBreaks s function e))
+      (given_exactly ⊤ (tested_errors s.backend marked.Function function.attrs start) Marks (tested_exactly s.backend marked.Function function.attrs start))
       (given_after ⊤ heading (unless_disabled marks callable) Heading (λ e. IsEnabled marks × EnabledFunctionBreaks s function e)
       (given_exactly ⊤ heading Heading (heading_exactly s.backend function.docs function.name function.abi_name function.lifetimes))
       (given_unless Given marks.disable callable (EnabledFunctionBreaks s function)

@@ -14,7 +14,7 @@ use Rattle.bridge_text.specs.declared.rename.AttrInheritContext.TheVariants as c
 use Rattle.bridge_telling.specs.Telling.{TellsExactly}
 use Rattle.bridge_telling.proofs.ExactLemmas.{exactly_both, exactly_each, exactly_none, in_first, in_none, in_one}
 use Rattle.hir_attrs.specs.Attrs.{empty_attrs, inherited}
-use Rattle.hir_attrs.specs.Reading.{about, marks_errors}
+use Rattle.hir_attrs.specs.Reading.{about}
 use Rattle.hir_attrs.specs.declared.attrs.Attrs.{Attrs}
 use Rattle.hir_backends.specs.Backend.{Backend}
 use Rattle.hir_docs.specs.Docs.{docs_errors}
@@ -23,9 +23,13 @@ use Rattle.hir_fields.specs.Variants.{variant_errors, variants_errors}
 use Rattle.hir_heads.proofs.NameLemmas.{ident_decided}
 use Rattle.hir_heads.specs.Heads.{lifetime_errors, notes_errors}
 use Rattle.hir_heads.specs.Names.{is_ident, name_errors}
+use Rattle.hir_mark_contexts.specs.Told.{tested_errors}
+use Rattle.hir_mark_contexts.specs.declared.contexts.MarkContext.TheVariants as marked
+use Rattle.hir_mark_contexts.specs.declared.contexts.MarkContext.{MarkContext}
 use Rattle.hir_mark_rules.proofs.DocsLemmas.{docs_exactly}
-use Rattle.hir_mark_rules.proofs.MarksLemmas.{marks_exactly}
-use Rattle.hir_mark_rules.specs.MarkBreaks.{DocsBreak, MarksBreak}
+use Rattle.hir_mark_rules.proofs.ContextLemmas.{tested_exactly}
+use Rattle.hir_mark_rules.specs.ContextBreaks.{TestedMarksBreak}
+use Rattle.hir_mark_rules.specs.MarkBreaks.{DocsBreak}
 use Rattle.hir_methods.specs.Untyped.{each_untyped_errors, heading_errors, receiver_mark_errors, untyped_errors}
 use Rattle.hir_reports.specs.declared.rule.Rule.TheVariants as rule
 use Rattle.hir_traits.specs.TraitMethods.{param_name_errors}
@@ -52,23 +56,24 @@ lifetimes_exactly env = exactly_each (λ node. name_errors node.name) (λ node e
 
 -- ---- heads
 
-pub notes_exactly : (backend : Backend) (start : Attrs) (docs : DeclaredDocs) (attrs : DeclaredAttrs) → TellsExactly (notes_errors backend start docs attrs) (NotesBreak backend start docs attrs)
-notes_exactly backend start docs attrs =
-    exactly_both (marks_errors backend attrs start) (docs_errors backend docs) (MarksBreak backend attrs start) (DocsBreak backend docs) (marks_exactly backend attrs start) (docs_exactly backend docs)
+pub notes_exactly : (backend : Backend) (what : MarkContext) (start : Attrs) (docs : DeclaredDocs) (attrs : DeclaredAttrs)
+    → TellsExactly (notes_errors backend what start docs attrs) (NotesBreak backend what start docs attrs)
+notes_exactly backend what start docs attrs =
+    exactly_both (tested_errors backend what attrs start) (docs_errors backend docs) (TestedMarksBreak backend what attrs start) (DocsBreak backend docs) (tested_exactly backend what attrs start) (docs_exactly backend docs)
 
-pub head_exactly : (backend : Backend) (start : Attrs) (name : List ℕ) (docs : DeclaredDocs) (attrs : DeclaredAttrs)
-    → TellsExactly (head_errors backend start name docs attrs) (HeadBreaks backend start name docs attrs)
-head_exactly backend start name docs attrs =
-    exactly_both (name_errors name) (notes_errors backend start docs attrs) (BadIdent name) (NotesBreak backend start docs attrs) (name_exactly name) (notes_exactly backend start docs attrs)
+pub head_exactly : (backend : Backend) (what : MarkContext) (start : Attrs) (name : List ℕ) (docs : DeclaredDocs) (attrs : DeclaredAttrs)
+    → TellsExactly (head_errors backend what start name docs attrs) (HeadBreaks backend what start name docs attrs)
+head_exactly backend what start name docs attrs =
+    exactly_both (name_errors name) (notes_errors backend what start docs attrs) (BadIdent name) (NotesBreak backend what start docs attrs) (name_exactly name) (notes_exactly backend what start docs attrs)
 
 pub variants_exactly : (backend : Backend) (enum_set : Attrs) (variants : List Variant) → TellsExactly (variants_errors backend enum_set variants) (VariantsBreak backend enum_set variants)
 variants_exactly backend enum_set variants =
-    exactly_each (variant_errors backend enum_set) (λ v e. HeadBreaks backend (inherited enum_set context.Variant) v.name v.docs v.attrs e)
-    (λ v. head_exactly backend (inherited enum_set context.Variant) v.name v.docs v.attrs) variants
+    exactly_each (variant_errors backend enum_set) (λ v e. HeadBreaks backend marked.EnumVariant (inherited enum_set context.Variant) v.name v.docs v.attrs e)
+    (λ v. head_exactly backend marked.EnumVariant (inherited enum_set context.Variant) v.name v.docs v.attrs) variants
 
-pub field_heads_exactly : (backend : Backend) (fields : List Field) → TellsExactly (field_heads_errors backend fields) (FieldHeadsBreak backend fields)
-field_heads_exactly backend fields =
-    exactly_each (field_head_errors backend) (λ f e. HeadBreaks backend empty_attrs f.name f.docs f.attrs e) (λ f. head_exactly backend empty_attrs f.name f.docs f.attrs) fields
+pub field_heads_exactly : (backend : Backend) (what : MarkContext) (fields : List Field) → TellsExactly (field_heads_errors backend what fields) (FieldHeadsBreak backend what fields)
+field_heads_exactly backend what fields =
+    exactly_each (field_head_errors backend what) (λ f e. HeadBreaks backend what empty_attrs f.name f.docs f.attrs e) (λ f. head_exactly backend what empty_attrs f.name f.docs f.attrs) fields
 
 -- ---- methods and functions
 
@@ -86,12 +91,12 @@ heading_exactly backend docs name abi_name lifetimes =
 
 pub receiver_exactly : (backend : Backend) (receiver : Option SelfParam) → TellsExactly (receiver_mark_errors backend receiver) (ReceiverMarksBreak backend receiver)
 receiver_exactly backend None e = exactly_none e
-receiver_exactly backend (Some receiver) e = marks_exactly backend receiver.attrs empty_attrs e
+receiver_exactly backend (Some receiver) e = tested_exactly backend marked.SelfParam receiver.attrs empty_attrs e
 
 pub params_exactly : (backend : Backend) (params : List Param) → TellsExactly (each_untyped_errors backend params) (ParamHeadsBreak backend params)
 params_exactly backend params =
-    exactly_each (untyped_errors backend) (λ p e. BadIdent p.name e ⊎ MarksBreak backend p.attrs empty_attrs e)
-    (λ p. exactly_both (name_errors p.name) (marks_errors backend p.attrs empty_attrs) (BadIdent p.name) (MarksBreak backend p.attrs empty_attrs) (name_exactly p.name) (marks_exactly backend p.attrs empty_attrs)) params
+    exactly_each (untyped_errors backend) (λ p e. BadIdent p.name e ⊎ TestedMarksBreak backend marked.Param p.attrs empty_attrs e)
+    (λ p. exactly_both (name_errors p.name) (tested_errors backend marked.Param p.attrs empty_attrs) (BadIdent p.name) (TestedMarksBreak backend marked.Param p.attrs empty_attrs) (name_exactly p.name) (tested_exactly backend marked.Param p.attrs empty_attrs)) params
 
 pub param_names_exactly : (params : List Param) → TellsExactly (param_name_errors params) (ParamNamesBreak params)
 param_names_exactly params = exactly_each (λ p. name_errors p.name) (λ p e. BadIdent p.name e) (λ p. name_exactly p.name) params

@@ -37,6 +37,8 @@ use Rattle.hir_items.specs.Placing.{at_item_itself, at_method_of, where_enabled}
 use Rattle.hir_items.specs.Setting.{Setting}
 use Rattle.hir_items.specs.Structs.{out_struct_errors, out_struct_reports, struct_errors, struct_reports, zero_size_errors}
 use Rattle.hir_items.specs.TypeMethods.{method_reports, type_method_reports}
+use Rattle.hir_mark_contexts.specs.declared.contexts.MarkContext.TheVariants as marked
+use Rattle.hir_mark_contexts.specs.declared.contexts.MarkContext.{MarkContext}
 use Rattle.hir_methods.specs.Functions.{function_errors}
 use Rattle.hir_methods.specs.Methods.{method_errors}
 use Rattle.hir_methods.specs.Untyped.{unless_disabled}
@@ -92,21 +94,21 @@ module _ (s : Setting) (set : Attrs) where
   -- ---- structs
 
   -- what stands before the rest of a struct: its notes, its name and the names of its lifetimes
-  module _ (item : Struct) (rest : List LoweringError) (Rest : LoweringError → Type 0) (told : TellsGiven (lifetime_errors item.lifetimes ≡ []) rest Rest) where
+  module _ (context : MarkContext) (item : Struct) (rest : List LoweringError) (Rest : LoweringError → Type 0) (told : TellsGiven (lifetime_errors item.lifetimes ≡ []) rest Rest) where
     abbrev marks : Attrs
     marks = item_marks s.backend set item.attrs
 
-    pub struct_parts : TellsGiven ⊤ (notes_errors s.backend (item_start set) item.docs item.attrs ++ ((name_errors item.name ++ lifetime_errors item.lifetimes) ++ where_enabled marks rest))
-        (λ e. NotesBreak s.backend (item_start set) item.docs item.attrs e ⊎ (BadIdent item.name e ⊎ (BadLifetimeIdent item.lifetimes e ⊎ (IsEnabled marks × Rest e))))
+    pub struct_parts : TellsGiven ⊤ (notes_errors s.backend context (item_start set) item.docs item.attrs ++ ((name_errors item.name ++ lifetime_errors item.lifetimes) ++ where_enabled marks rest))
+        (λ e. NotesBreak s.backend context (item_start set) item.docs item.attrs e ⊎ (BadIdent item.name e ⊎ (BadLifetimeIdent item.lifetimes e ⊎ (IsEnabled marks × Rest e))))
     struct_parts =
-        let notes = notes_errors s.backend (item_start set) item.docs item.attrs in
+        let notes = notes_errors s.backend context (item_start set) item.docs item.attrs in
         let names = name_errors item.name in
         let lifetimes = lifetime_errors item.lifetimes in
         let Enabled : LoweringError → Type 0 = λ e. IsEnabled marks × Rest e in
         let Given : Type 0 = ⊤ × (lifetimes ≡ []) in
         let Own : LoweringError → Type 0 = λ e. BadIdent item.name e ⊎ (BadLifetimeIdent item.lifetimes e ⊎ Enabled e) in
-        given_both ⊤ notes ((names ++ lifetimes) ++ where_enabled marks rest) (NotesBreak s.backend (item_start set) item.docs item.attrs) Own
-        (given_exactly ⊤ notes (NotesBreak s.backend (item_start set) item.docs item.attrs) (notes_exactly s.backend (item_start set) item.docs item.attrs))
+        given_both ⊤ notes ((names ++ lifetimes) ++ where_enabled marks rest) (NotesBreak s.backend context (item_start set) item.docs item.attrs) Own
+        (given_exactly ⊤ notes (NotesBreak s.backend context (item_start set) item.docs item.attrs) (notes_exactly s.backend context (item_start set) item.docs item.attrs))
         (in_three (λ told. TellsGiven ⊤ told Own) names lifetimes (where_enabled marks rest)
         (given_both ⊤ names (lifetimes ++ where_enabled marks rest) (BadIdent item.name) (λ e. BadLifetimeIdent item.lifetimes e ⊎ Enabled e) (given_exactly ⊤ names (BadIdent item.name) (name_exactly item.name))
         (given_after ⊤ lifetimes (where_enabled marks rest) (BadLifetimeIdent item.lifetimes) Enabled (given_exactly ⊤ lifetimes (BadLifetimeIdent item.lifetimes) (lifetimes_exactly item.lifetimes))
@@ -116,24 +118,24 @@ module _ (s : Setting) (set : Attrs) where
   struct_told item =
       let Given : Type 0 = lifetime_errors item.lifetimes ≡ [] in
       let zero = zero_size_errors item.fields item.methods in
-      let heads = field_heads_errors s.backend item.fields in
+      let heads = field_heads_errors s.backend marked.Field item.fields in
       let types = types_errors (struct_type_errors s.backend.supports s.catalog) s.names item in
-      let Heads : LoweringError → Type 0 = FieldHeadsBreak s.backend item.fields in
+      let Heads : LoweringError → Type 0 = FieldHeadsBreak s.backend marked.Field item.fields in
       let Types : LoweringError → Type 0 = FieldTypesBreak (FieldTypeBreaks s.backend.supports s.catalog) s.names item in
-      struct_parts item (zero ++ (heads ++ types)) (λ e. ZeroSizeMethods item e ⊎ (Heads e ⊎ Types e))
+      struct_parts marked.Struct item (zero ++ (heads ++ types)) (λ e. ZeroSizeMethods item e ⊎ (Heads e ⊎ Types e))
       (given_both Given zero (heads ++ types) (ZeroSizeMethods item) (λ e. Heads e ⊎ Types e) (given_exactly Given zero (ZeroSizeMethods item) (zero_exactly item))
-      (given_both Given heads types Heads Types (given_exactly Given heads Heads (field_heads_exactly s.backend item.fields))
+      (given_both Given heads types Heads Types (given_exactly Given heads Heads (field_heads_exactly s.backend marked.Field item.fields))
       (field_types_told (struct_type_errors s.backend.supports s.catalog) (FieldTypeBreaks s.backend.supports s.catalog) (field_type_told s.backend.supports s.catalog) s.names item)))
 
   pub out_struct_told : (item : Struct) → TellsGiven ⊤ (out_struct_errors s set item) (OutStructBreaks s set item)
   out_struct_told item =
       let Given : Type 0 = lifetime_errors item.lifetimes ≡ [] in
-      let heads = field_heads_errors s.backend item.fields in
+      let heads = field_heads_errors s.backend marked.OutStructField item.fields in
       let types = types_errors (out_type_errors s.backend.supports s.catalog) s.names item in
-      let Heads : LoweringError → Type 0 = FieldHeadsBreak s.backend item.fields in
+      let Heads : LoweringError → Type 0 = FieldHeadsBreak s.backend marked.OutStructField item.fields in
       let Types : LoweringError → Type 0 = FieldTypesBreak (OutFieldTypeBreaks s.backend.supports s.catalog) s.names item in
-      struct_parts item (heads ++ types) (λ e. Heads e ⊎ Types e)
-      (given_both Given heads types Heads Types (given_exactly Given heads Heads (field_heads_exactly s.backend item.fields))
+      struct_parts marked.OutStruct item (heads ++ types) (λ e. Heads e ⊎ Types e)
+      (given_both Given heads types Heads Types (given_exactly Given heads Heads (field_heads_exactly s.backend marked.OutStructField item.fields))
       (field_types_told (out_type_errors s.backend.supports s.catalog) (OutFieldTypeBreaks s.backend.supports s.catalog) (out_field_type_told s.backend.supports s.catalog) s.names item))
 
   -- ---- opaques, enums, traits
@@ -141,16 +143,16 @@ module _ (s : Setting) (set : Attrs) where
   pub opaque_told : (item : OpaqueType) → TellsGiven ⊤ (opaque_errors s.backend set item) (OpaqueBreaks s set item)
   opaque_told item =
       let marks = item_marks s.backend set item.attrs in
-      let notes = notes_errors s.backend (item_start set) item.docs item.attrs in
+      let notes = notes_errors s.backend marked.Opaque (item_start set) item.docs item.attrs in
       let names = name_errors item.name in
       let lifetimes = lifetime_errors item.lifetimes in
       let dtor = name_errors item.dtor_abi_name in
       let limit = limit_errors item.lifetimes in
-      let Notes : LoweringError → Type 0 = NotesBreak s.backend (item_start set) item.docs item.attrs in
+      let Notes : LoweringError → Type 0 = NotesBreak s.backend marked.Opaque (item_start set) item.docs item.attrs in
       let Limit : LoweringError → Type 0 = λ e. IsEnabled marks × LimitBreaks item.lifetimes e in
       let Own : LoweringError → Type 0 = λ e. BadIdent item.name e ⊎ (BadLifetimeIdent item.lifetimes e ⊎ (BadIdent item.dtor_abi_name e ⊎ Limit e)) in
       given_both ⊤ notes (((names ++ lifetimes) ++ dtor) ++ where_enabled marks limit) Notes Own
-      (given_exactly ⊤ notes Notes (notes_exactly s.backend (item_start set) item.docs item.attrs))
+      (given_exactly ⊤ notes Notes (notes_exactly s.backend marked.Opaque (item_start set) item.docs item.attrs))
       (in_four (λ told. TellsGiven ⊤ told Own) names lifetimes dtor (where_enabled marks limit)
       (given_both ⊤ names (lifetimes ++ (dtor ++ where_enabled marks limit)) (BadIdent item.name) (λ e. BadLifetimeIdent item.lifetimes e ⊎ (BadIdent item.dtor_abi_name e ⊎ Limit e))
       (given_exactly ⊤ names (BadIdent item.name) (name_exactly item.name))
@@ -162,28 +164,28 @@ module _ (s : Setting) (set : Attrs) where
   pub enum_told : (item : Enum) → TellsGiven ⊤ (enum_errors s.backend set item) (EnumBreaks s set item)
   enum_told item =
       let marks = item_marks s.backend set item.attrs in
-      let notes = notes_errors s.backend (item_start set) item.docs item.attrs in
+      let notes = notes_errors s.backend marked.Enum (item_start set) item.docs item.attrs in
       let names = name_errors item.name in
       let variants = variants_errors s.backend marks item.variants in
-      let Notes : LoweringError → Type 0 = NotesBreak s.backend (item_start set) item.docs item.attrs in
+      let Notes : LoweringError → Type 0 = NotesBreak s.backend marked.Enum (item_start set) item.docs item.attrs in
       let Variants : LoweringError → Type 0 = VariantsBreak s.backend marks item.variants in
       given_exactly ⊤ (notes ++ (names ++ variants)) (EnumBreaks s set item)
-      (exactly_both notes (names ++ variants) Notes (λ e. BadIdent item.name e ⊎ Variants e) (notes_exactly s.backend (item_start set) item.docs item.attrs)
+      (exactly_both notes (names ++ variants) Notes (λ e. BadIdent item.name e ⊎ Variants e) (notes_exactly s.backend marked.Enum (item_start set) item.docs item.attrs)
       (exactly_both names variants (BadIdent item.name) Variants (name_exactly item.name) (variants_exactly s.backend marks item.variants)))
 
   pub trait_told : (item : Trait) → TellsGiven ⊤ (own_trait_errors s.backend s.support (item_start set) item) (TraitItselfBreaks s set item)
   trait_told item =
       let marks = item_marks s.backend set item.attrs in
-      let notes = notes_errors s.backend (item_start set) item.docs item.attrs in
+      let notes = notes_errors s.backend marked.Trait (item_start set) item.docs item.attrs in
       let names = trait_name_errors item in
       let flags = map fault_error (trait_faults s.support item.is_send item.is_sync) in
       let limit = limit_errors item.lifetimes in
-      let Notes : LoweringError → Type 0 = NotesBreak s.backend (item_start set) item.docs item.attrs in
+      let Notes : LoweringError → Type 0 = NotesBreak s.backend marked.Trait (item_start set) item.docs item.attrs in
       let Names : LoweringError → Type 0 = λ e. BadIdent item.name e ⊎ BadLifetimeIdent item.lifetimes e in
       let Flags : LoweringError → Type 0 = AsFaultErrors (TraitBreaks s.support item.is_send item.is_sync) in
       let Limit : LoweringError → Type 0 = λ e. IsEnabled marks × LimitBreaks item.lifetimes e in
       in_four (λ told. TellsGiven ⊤ told (TraitItselfBreaks s set item)) notes names flags (unless_disabled marks limit)
-      (given_both ⊤ notes (names ++ (flags ++ unless_disabled marks limit)) Notes (λ e. Names e ⊎ (Flags e ⊎ Limit e)) (given_exactly ⊤ notes Notes (notes_exactly s.backend (item_start set) item.docs item.attrs))
+      (given_both ⊤ notes (names ++ (flags ++ unless_disabled marks limit)) Notes (λ e. Names e ⊎ (Flags e ⊎ Limit e)) (given_exactly ⊤ notes Notes (notes_exactly s.backend marked.Trait (item_start set) item.docs item.attrs))
       (given_both ⊤ names (flags ++ unless_disabled marks limit) Names (λ e. Flags e ⊎ Limit e)
       (given_exactly ⊤ names Names (exactly_both (name_errors item.name) (lifetime_errors item.lifetimes) (BadIdent item.name) (BadLifetimeIdent item.lifetimes) (name_exactly item.name) (lifetimes_exactly item.lifetimes)))
       (given_both ⊤ flags (unless_disabled marks limit) Flags Limit (as_faults (trait_faults s.support item.is_send item.is_sync) (TraitBreaks s.support item.is_send item.is_sync) (tells_trait s.support item.is_send item.is_sync))

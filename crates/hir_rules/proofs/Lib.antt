@@ -6,6 +6,7 @@ pub mod StageLemmas
 pub mod TypeLemmas
 pub mod AppendLemmas
 pub mod HeadLemmas
+pub mod RequiredLemmas
 pub mod CallableLemmas
 pub mod ItemLemmas
 pub mod WalkLemmas

@@ -9,12 +9,15 @@ use Rattle.bridge_grid.specs.ItemBreaks.{FreeFunctionBreaks}
 use Rattle.hir_attrs.specs.Reading.{marks_of}
 use Rattle.hir_attrs.specs.declared.attrs.Attrs.{Attrs}
 use Rattle.hir_items.specs.Setting.{Setting}
+use Rattle.hir_mark_contexts.specs.declared.contexts.MarkContext.TheVariants as marked
+use Rattle.hir_mark_rules.specs.ContextBreaks.{TestedMarksBreak}
 use Rattle.hir_mark_rules.specs.MarkBreaks.{DocsBreak, MarksBreak}
 use Rattle.hir_number.specs.Signatures.{without_writer}
 use Rattle.hir_reports.specs.declared.report.LoweringError.{LoweringError}
 use Rattle.hir_rules.specs.Heads.{HeadingBreaks, IsEnabled, ParamHeadsBreak, ParamNamesBreak, ReceiverMarksBreak}
 use Rattle.hir_rules.specs.Types.{AsFaultErrors, FunctionTypesBreak, MethodTypesBreak, TraitMethodTypesBreak}
 use Rattle.hir_rules.specs.rules.BadIdent.{BadIdent, BadLifetimeIdent}
+use Rattle.hir_rules.specs.rules.RequiredAfterDefault.{RequiredAfterDefault}
 
 -- an enabled method of the type there, beside its own marks: its heading, its receiver, its parameters without the trailing writer, or its
 -- types
@@ -22,13 +25,14 @@ abbrev pub EnabledMethodBreaks : Setting → ItemPlace → Method → LoweringEr
 EnabledMethodBreaks s owner method error =
     HeadingBreaks s.backend method.docs method.name method.abi_name method.lifetime_env error
     ⊎ (ReceiverMarksBreak s.backend method.self_param error
-    ⊎ (ParamHeadsBreak s.backend (without_writer method.params) error
+    ⊎ ((ParamHeadsBreak s.backend (without_writer method.params) error
+    ⊎ RequiredAfterDefault s.backend (without_writer method.params) error)
     ⊎ MethodTypesBreak s.support s.config s.catalog s.names owner method error))
 
 -- a method whose marks start from these
 abbrev pub MethodBreaks : Setting → ItemPlace → Attrs → Method → LoweringError → Type 0
 MethodBreaks s owner start method error =
-    MarksBreak s.backend method.attrs start error
+    TestedMarksBreak s.backend marked.Method method.attrs start error
     ⊎ (IsEnabled (marks_of s.backend method.attrs start) × EnabledMethodBreaks s owner method error)
 
 -- an enabled function: that it stands outside types, its parameters without the trailing writer, or its types
@@ -41,7 +45,7 @@ EnabledFunctionBreaks s function error =
 -- a function whose marks start from these
 abbrev pub FunctionBreaks : Setting → Attrs → Function → LoweringError → Type 0
 FunctionBreaks s start function error =
-    MarksBreak s.backend function.attrs start error
+    TestedMarksBreak s.backend marked.Function function.attrs start error
     ⊎ (HeadingBreaks s.backend function.docs function.name function.abi_name function.lifetimes error
     ⊎ (IsEnabled (marks_of s.backend function.attrs start) × EnabledFunctionBreaks s function error))
 

@@ -12,7 +12,10 @@ use Rattle.bridge_text.specs.declared.rename.AttrInheritContext.TheVariants as c
 use Rattle.hir_attrs.specs.Attrs.{empty_attrs, inherited}
 use Rattle.hir_attrs.specs.declared.attrs.Attrs.{Attrs}
 use Rattle.hir_backends.specs.Backend.{Backend}
-use Rattle.hir_mark_rules.specs.MarkBreaks.{DocsBreak, MarksBreak}
+use Rattle.hir_mark_contexts.specs.declared.contexts.MarkContext.TheVariants as marked
+use Rattle.hir_mark_contexts.specs.declared.contexts.MarkContext.{MarkContext}
+use Rattle.hir_mark_rules.specs.ContextBreaks.{TestedMarksBreak}
+use Rattle.hir_mark_rules.specs.MarkBreaks.{DocsBreak}
 use Rattle.hir_reports.specs.declared.report.LoweringError.{LoweringError}
 use Rattle.hir_rules.specs.rules.BadIdent.{BadIdent, BadLifetimeIdent}
 
@@ -20,23 +23,23 @@ use Rattle.hir_rules.specs.rules.BadIdent.{BadIdent, BadLifetimeIdent}
 abbrev pub IsEnabled : Attrs → Type 0
 IsEnabled marks = marks.disable ≡ false
 
--- the marks, which start from this set, or the conditions of the documents
-abbrev pub NotesBreak : Backend → Attrs → DeclaredDocs → DeclaredAttrs → LoweringError → Type 0
-NotesBreak backend start docs attrs error = MarksBreak backend attrs start error ⊎ DocsBreak backend docs error
+-- the marks of what is of that kind, which start from this set, or the conditions of the documents
+abbrev pub NotesBreak : Backend → MarkContext → Attrs → DeclaredDocs → DeclaredAttrs → LoweringError → Type 0
+NotesBreak backend what start docs attrs error = TestedMarksBreak backend what attrs start error ⊎ DocsBreak backend docs error
 
 -- the name, or these
-abbrev pub HeadBreaks : Backend → Attrs → List ℕ → DeclaredDocs → DeclaredAttrs → LoweringError → Type 0
-HeadBreaks backend start name docs attrs error = BadIdent name error ⊎ NotesBreak backend start docs attrs error
+abbrev pub HeadBreaks : Backend → MarkContext → Attrs → List ℕ → DeclaredDocs → DeclaredAttrs → LoweringError → Type 0
+HeadBreaks backend what start name docs attrs error = BadIdent name error ⊎ NotesBreak backend what start docs attrs error
 
 -- one of the variants of an enum, whose marks start from what a variant takes over of the enum's set
 abbrev pub VariantsBreak : Backend → Attrs → List Variant → LoweringError → Type 0
 VariantsBreak backend enum_set variants error =
-    (v : Variant) × (Contains variants v × HeadBreaks backend (inherited enum_set context.Variant) v.name v.docs v.attrs error)
+    (v : Variant) × (Contains variants v × HeadBreaks backend marked.EnumVariant (inherited enum_set context.Variant) v.name v.docs v.attrs error)
 
--- one of the fields of a struct, whose marks start from none
-abbrev pub FieldHeadsBreak : Backend → List Field → LoweringError → Type 0
-FieldHeadsBreak backend fields error =
-    (f : Field) × (Contains fields f × HeadBreaks backend empty_attrs f.name f.docs f.attrs error)
+-- one of the fields of a struct or an out-struct, whose marks start from none
+abbrev pub FieldHeadsBreak : Backend → MarkContext → List Field → LoweringError → Type 0
+FieldHeadsBreak backend what fields error =
+    (f : Field) × (Contains fields f × HeadBreaks backend what empty_attrs f.name f.docs f.attrs error)
 
 -- the documents, the name, the name of the exported symbol, or that of a lifetime, of a method or a function
 abbrev pub HeadingBreaks : Backend → DeclaredDocs → List ℕ → List ℕ → LifetimeEnv → LoweringError → Type 0
@@ -45,13 +48,13 @@ HeadingBreaks backend docs name abi_name lifetimes error =
 
 -- the marks of the receiver, which start from none
 abbrev pub ReceiverMarksBreak : Backend → Option SelfParam → LoweringError → Type 0
-ReceiverMarksBreak backend (Some receiver) error = MarksBreak backend receiver.attrs empty_attrs error
+ReceiverMarksBreak backend (Some receiver) error = TestedMarksBreak backend marked.SelfParam receiver.attrs empty_attrs error
 ReceiverMarksBreak backend None error = ⊥
 
 -- one of the parameters: its name, or its marks, which start from none
 abbrev pub ParamHeadsBreak : Backend → List Param → LoweringError → Type 0
 ParamHeadsBreak backend params error =
-    (p : Param) × (Contains params p × (BadIdent p.name error ⊎ MarksBreak backend p.attrs empty_attrs error))
+    (p : Param) × (Contains params p × (BadIdent p.name error ⊎ TestedMarksBreak backend marked.Param p.attrs empty_attrs error))
 
 -- in a trait's method the name alone: marks of its parameters aren't read
 abbrev pub ParamNamesBreak : List Param → LoweringError → Type 0

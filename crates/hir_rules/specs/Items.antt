@@ -16,6 +16,7 @@ use Rattle.bridge_grid.specs.ItemBreaks.{TraitBreaks}
 use Rattle.hir_attrs.specs.declared.attrs.Attrs.{Attrs}
 use Rattle.hir_items.specs.Inheriting.{item_marks, item_start, method_start}
 use Rattle.hir_items.specs.Setting.{Setting}
+use Rattle.hir_mark_contexts.specs.declared.contexts.MarkContext.TheVariants as marked
 use Rattle.hir_reports.specs.Store.{at_place, told_at}
 use Rattle.hir_reports.specs.Texts.{plain_error}
 use Rattle.hir_reports.specs.declared.report.LoweringError.{LoweringError}
@@ -38,26 +39,26 @@ LimitBreaks lifetimes error = DeclaresTooMany lifetimes × (error ≡ plain_erro
 -- methods without fields, or its fields
 abbrev pub StructBreaks : Setting → Attrs → Struct → LoweringError → Type 0
 StructBreaks s set it error =
-    NotesBreak s.backend (item_start set) it.docs it.attrs error
+    NotesBreak s.backend marked.Struct (item_start set) it.docs it.attrs error
     ⊎ (BadIdent it.name error
     ⊎ (BadLifetimeIdent it.lifetimes error
     ⊎ (IsEnabled (item_marks s.backend set it.attrs) × (ZeroSizeMethods it error
-    ⊎ (FieldHeadsBreak s.backend it.fields error
+    ⊎ (FieldHeadsBreak s.backend marked.Field it.fields error
     ⊎ FieldTypesBreak (FieldTypeBreaks s.backend.supports s.catalog) s.names it error)))))
 
 -- an out-struct, which may have methods without fields
 abbrev pub OutStructBreaks : Setting → Attrs → Struct → LoweringError → Type 0
 OutStructBreaks s set it error =
-    NotesBreak s.backend (item_start set) it.docs it.attrs error
+    NotesBreak s.backend marked.OutStruct (item_start set) it.docs it.attrs error
     ⊎ (BadIdent it.name error
     ⊎ (BadLifetimeIdent it.lifetimes error
-    ⊎ (IsEnabled (item_marks s.backend set it.attrs) × (FieldHeadsBreak s.backend it.fields error
+    ⊎ (IsEnabled (item_marks s.backend set it.attrs) × (FieldHeadsBreak s.backend marked.OutStructField it.fields error
     ⊎ FieldTypesBreak (OutFieldTypeBreaks s.backend.supports s.catalog) s.names it error))))
 
 -- an opaque: so its marks, documents and names, that of its destructor; and of an enabled one that it declares too many lifetimes
 abbrev pub OpaqueBreaks : Setting → Attrs → OpaqueType → LoweringError → Type 0
 OpaqueBreaks s set it error =
-    NotesBreak s.backend (item_start set) it.docs it.attrs error
+    NotesBreak s.backend marked.Opaque (item_start set) it.docs it.attrs error
     ⊎ (BadIdent it.name error
     ⊎ (BadLifetimeIdent it.lifetimes error
     ⊎ (BadIdent it.dtor_abi_name error
@@ -66,14 +67,14 @@ OpaqueBreaks s set it error =
 -- an enum: its marks, documents and name, or its variants
 abbrev pub EnumBreaks : Setting → Attrs → Enum → LoweringError → Type 0
 EnumBreaks s set it error =
-    NotesBreak s.backend (item_start set) it.docs it.attrs error
+    NotesBreak s.backend marked.Enum (item_start set) it.docs it.attrs error
     ⊎ (BadIdent it.name error ⊎ VariantsBreak s.backend (item_marks s.backend set it.attrs) it.variants error)
 
 -- a trait: its marks, documents and names; what it needs in order to be `Send` or `Sync`; and of an enabled one that it declares too many
 -- lifetimes
 abbrev pub TraitItselfBreaks : Setting → Attrs → Trait → LoweringError → Type 0
 TraitItselfBreaks s set it error =
-    NotesBreak s.backend (item_start set) it.docs it.attrs error
+    NotesBreak s.backend marked.Trait (item_start set) it.docs it.attrs error
     ⊎ ((BadIdent it.name error ⊎ BadLifetimeIdent it.lifetimes error)
     ⊎ (AsFaultErrors (TraitBreaks s.support it.is_send it.is_sync) error
     ⊎ (IsEnabled (item_marks s.backend set it.attrs) × LimitBreaks it.lifetimes error)))

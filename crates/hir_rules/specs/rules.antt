@@ -8,3 +8,4 @@ pub mod ElisionNoSource
 pub mod ElisionAmbiguous
 pub mod TooManyLifetimes
 pub mod ZeroSizeMethods
+pub mod RequiredAfterDefault

@@ -10,7 +10,7 @@ use Rattle.bridge_grid.specs.declared.fault.TypeFault.{TypeFault}
 use Rattle.hir_form.specs.Judging.{IsJudged}
 use Rattle.hir_form.specs.ParamForms.{all_given}
 use Rattle.hir_form.specs.ReturnForms.{both_given}
-use Rattle.hir_heads.proofs.Stores.{added_keeps}
+use Rattle.hir_mark_contexts.proofs.Stores.{added_keeps}
 use Rattle.hir_methods.proofs.StageLemmas.{unfaulted}
 use Rattle.hir_methods.specs.Choosing.{kept_with, paired}
 use Rattle.hir_methods.specs.inside.Parts.{GivenUnlessTold}

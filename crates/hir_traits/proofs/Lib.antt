@@ -5,3 +5,4 @@ pub mod WalkLemmas
 pub mod ReportLemmas
 pub mod SoundLemmas
 pub mod FormLemmas
+pub mod KeptLemmas

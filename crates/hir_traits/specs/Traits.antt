@@ -23,6 +23,7 @@ use Rattle.hir_items.specs.Opaques.{limit_errors}
 use Rattle.hir_items.specs.Placing.{at_item_itself, at_method_of, where_enabled}
 use Rattle.hir_life.specs.Declarations.{declared_environment}
 use Rattle.hir_config.specs.declared.config.LoweringConfig.{LoweringConfig}
+use Rattle.hir_mark_contexts.specs.declared.contexts.MarkContext.TheVariants as marked
 use Rattle.hir_methods.specs.Untyped.{unless_disabled}
 use Rattle.hir_number.specs.Naming.{Naming}
 use Rattle.hir_reports.specs.Store.{at_place, told_at}
@@ -43,7 +44,7 @@ trait_name_errors item = name_errors item.name ++ lifetime_errors item.lifetimes
 -- is enabled, that it has too many lifetimes
 abbrev pub own_trait_errors : Backend → BackendAttrSupport → Attrs → Trait → List LoweringError
 own_trait_errors backend support start item =
-    notes_errors backend start item.docs item.attrs
+    notes_errors backend marked.Trait start item.docs item.attrs
     ++ trait_name_errors item
     ++ map fault_error (trait_faults support item.is_send item.is_sync)
     ++ unless_disabled (marks_of backend item.attrs start) (limit_errors item.lifetimes)

@@ -162,7 +162,7 @@ fn judge_types<V>(
 }
 
 /// Tells why there are no numbers.
-#[tactic(auto, using(hir_heads::proofs::Stores::added_keeps))]
+#[tactic(auto, using(hir_mark_contexts::proofs::Stores::added_keeps))]
 fn tell_unnumbered(
     alloc: Global,
     fault: NumberFault,

@@ -21,6 +21,7 @@ use hir_elide::MOST_LIFETIMES;
 use hir_heads::{Notes, lower_ident, lower_lifetimes, lower_notes};
 use hir_items::Lowering;
 use hir_life::LifetimeEnv;
+use hir_mark_contexts::MarkContext;
 use hir_methods::paired;
 use hir_reports::{ErrorStore, LoweringError, Rule};
 use std::alloc::Global;
@@ -71,7 +72,7 @@ fn lower_names(
 }
 
 /// Tells what the trait needs in order to be `Send` or `Sync`.
-#[tactic(auto, using(hir_heads::proofs::Stores::added_keeps))]
+#[tactic(auto, using(hir_mark_contexts::proofs::Stores::added_keeps))]
 fn tell_threads(
     alloc: Global,
     support: &BackendAttrSupport,
@@ -148,6 +149,7 @@ pub fn lower_own<V: AttributeValidator>(
         alloc,
         &item.docs,
         &item.attrs,
+        MarkContext::Trait,
         start,
         lowering.validator,
         errors,

@@ -20,7 +20,7 @@ use hir_signatures::tell_breaches;
 use std::alloc::Global;
 
 /// Tells breaches. Whether there are none.
-#[tactic(auto, using(hir_heads::proofs::Stores::added_keeps))]
+#[tactic(auto, using(hir_mark_contexts::proofs::Stores::added_keeps))]
 fn tell_all(
     alloc: Global,
     breaches: &[Breach<'_>],

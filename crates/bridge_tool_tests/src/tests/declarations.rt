@@ -80,7 +80,7 @@ const ACCEPTED: [(&str, &str); 14] = [
 ];
 
 /// Root modules that break one, with the flags of the backend and the reports.
-const REFUSED: [(&str, &str, &str); 13] = [
+const REFUSED: [(&str, &str, &str); 16] = [
     // fn f<'a>(x: &'a O, y: &'a O) -> &O
     (
         r#"{"items":[{"kind":"opaque","name":"O"},{"kind":"function","name":"f","lifetimes":[{"name":"a"}],"params":[{"name":"x","ty":{"ref":{"lifetime":"a","to":{"named":{"segments":["O"]}}}}},{"name":"y","ty":{"ref":{"lifetime":"a","to":{"named":{"segments":["O"]}}}}}],"ret":{"ref":{"lifetime":"_","to":{"named":{"segments":["O"]}}}}}]}"#,
@@ -159,6 +159,24 @@ const REFUSED: [(&str, &str, &str); 13] = [
         USUAL,
         "Lowering error in O\n  UnknownPair: unknown name and value in a condition\nrefused 1\n",
     ),
+    // #[attr(*, default)] on the opaque O
+    (
+        r#"{"items":[{"kind":"opaque","name":"O","attrs":{"marks":[{"if":"*","mark":["default"]}]}}]}"#,
+        DEFAULTS,
+        "Lowering error in O\n  MarkMisplaced: default is not allowed here\nrefused 1\n",
+    ),
+    // custom_extra_code on the opaque O, and the backend has no custom bindings.
+    (
+        r#"{"items":[{"kind":"opaque","name":"O","attrs":{"marks":[{"if":"*","mark":["custom_extra_code"],"list":[{"name":"location","value":{"str":"def_block"}},{"name":"source","value":{"str":"x"}}]}]}}]}"#,
+        USUAL,
+        "Lowering error in O\n  IncludeUnsupported: Custom bindings not supported by this language.\nrefused 1\n",
+    ),
+    // O::t(#[attr(*, default_value = 1)] a: u8, b: u8)
+    (
+        r#"{"items":[{"kind":"opaque","name":"O","methods":[{"name":"t","self_type":{"segments":["O"]},"params":[{"name":"a","ty":"u8","attrs":{"marks":[{"if":"*","mark":["default_value"],"value":{"int":"1"}}]}},{"name":"b","ty":"u8"}]}]}]}"#,
+        USUAL,
+        "Lowering error in O::t\n  RequiredAfterDefault: Found required arg b after default arguments.\nrefused 1\n",
+    ),
 ];
 
 /// The flags that most of these declarations are tried with.
@@ -168,6 +186,9 @@ const USUAL: &str =
 /// The same, where callbacks may take references.
 const UNSAFE: &str =
     r#","backend":{"name":"tests","supports":["static_slices","free_functions","struct_refs","option","callbacks","opaque_slices","default_args"]},"config":{"unsafe_references_in_callbacks":true}}"#;
+
+/// A backend whose types may have default values.
+const DEFAULTS: &str = r#","backend":{"name":"tests","supports":["defaults"]}}"#;
 
 /// A backend without references to structs.
 const NO_REFS: &str =

@@ -6,22 +6,39 @@ ghost use Rattle.hir_attrs.specs.Special.{every_special, is_special_called, spec
 /// A kind of special method, by the names that marks have for them.
 #[derive(Clone, Copy)]
 pub enum SpecialKind {
+    /// Makes a value of the type.
     Constructor,
+    /// Makes one under a name of its own.
     NamedConstructor,
+    /// Reads a property.
     Getter,
+    /// Writes a property.
     Setter,
+    /// Makes a text of a value.
     Stringifier,
+    /// Compares two values.
     Comparison,
+    /// Gives the next element.
     Iterator,
+    /// Makes an iterator.
     Iterable,
+    /// The operator `[]`.
     Indexer,
+    /// The operator `+`.
     Add,
+    /// The operator `-`.
     Sub,
+    /// The operator `*`.
     Mul,
+    /// The operator `/`.
     Div,
+    /// The operator `+=`.
     AddAssign,
+    /// The operator `-=`.
     SubAssign,
+    /// The operator `*=`.
     MulAssign,
+    /// The operator `/=`.
     DivAssign,
 }
 

@@ -5,7 +5,7 @@ use crate::tests::types::found;
 use bridge_decl::NoMemory;
 
 /// Marks with conditions or arguments of their own.
-const MARKS: [(&str, &str); 15] = [
+const MARKS: [(&str, &str); 17] = [
     ("not_auto", r#"{"if":{"not":"auto"},"mark":["tuple"]}"#),
     ("all_auto", r#"{"if":{"all":["auto"]},"mark":["tuple"]}"#),
     ("any_auto", r#"{"if":{"any":["auto"]},"mark":["tuple"]}"#),
@@ -49,6 +49,12 @@ const MARKS: [(&str, &str); 15] = [
         "default_1",
         r#"{"if":"*","mark":["default_value"],"value":{"int":"1"}}"#,
     ),
+    (
+        "auto_default",
+        r#"{"if":"auto","mark":["default_value"],"value":{"int":"1"}}"#,
+    ),
+    // No mark, but a key beside the marks.
+    ("abi_rename", r#"],"abi_rename":"x{0}","features":["#),
     (
         "default_most",
         r#"{"if":"*","mark":["default_value"],"value":{"int":"170141183460469231731687303715884105727"}}"#,

@@ -4,9 +4,10 @@ use Rattle.bridge_decl.specs.declared.functions.Function.{Function}
 use Rattle.bridge_decl.specs.declared.methods.Method.{Method}
 use Rattle.hir_attrs.specs.declared.attrs.Attrs.{Attrs}
 use Rattle.hir_backends.specs.Backend.{Backend}
+use Rattle.hir_methods.specs.Required.{method_param_errors}
 use Rattle.hir_number.specs.Signatures.{without_writer}
 use Rattle.hir_reports.specs.declared.report.LoweringError.{LoweringError}
-use Rattle.hir_methods.specs.Untyped.{each_untyped_errors, heading_errors, heading_form, receiver_mark_errors, receiver_marks, untyped_forms}
+use Rattle.hir_methods.specs.Untyped.{heading_errors, heading_form, receiver_mark_errors, receiver_marks, untyped_forms}
 use Rattle.hir_methods.specs.declared.headings.Heading.{Heading}
 use Rattle.hir_methods.specs.declared.params.UntypedParam.{UntypedParam}
 use Rattle.hir_methods.specs.declared.whole.Untyped.{Untyped}
@@ -21,7 +22,7 @@ abbrev pub apart_errors : Backend → Method → List LoweringError
 apart_errors backend method =
     heading_errors backend method.docs method.name method.abi_name method.lifetime_env
     ++ receiver_mark_errors backend method.self_param
-    ++ each_untyped_errors backend (without_writer method.params)
+    ++ method_param_errors backend (without_writer method.params)
 
 -- what that stands for
 abbrev pub apart_form : Backend → Method → Untyped

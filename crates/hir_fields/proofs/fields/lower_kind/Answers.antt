@@ -16,9 +16,9 @@ returns-clause-given g c = λ names is.
     let item = c.args.item.now in
     let backend = g.V.AttributeValidator.meaning c.args.validator.now in
     let form = field_types_form (g.K.FieldKind.type_form c.args.catalog.now) names item in
-    fields_given_ok g.K.FieldKind.field (field_head backend) item.fields form c.in_ok-heads.heads c.in_ok-types.types c.join.result (lifetime_errors item.lifetimes) (field_heads_errors backend item.fields)
+    fields_given_ok g.K.FieldKind.field (field_head backend) item.fields form c.in_ok-heads.heads c.in_ok-types.types c.join.result (lifetime_errors item.lifetimes) (field_heads_errors backend c.args.context item.fields)
     (types_errors (g.K.FieldKind.type_errors backend.supports c.args.catalog.now) names item)
-    (subst (λ (fields : List Field). MadeUnlessTold (field_heads_errors backend fields) (map (field_head backend) fields) c.in_ok-heads.heads) c.as_slice.ensures c.in_ok-heads.ensures.made)
+    (subst (λ (fields : List Field). MadeUnlessTold (field_heads_errors backend c.args.context fields) (map (field_head backend) fields) c.in_ok-heads.heads) c.as_slice.ensures c.in_ok-heads.ensures.made)
     (subst (λ (support : BackendAttrSupport). StandsUnlessTold (lifetime_errors item.lifetimes ++ types_errors (g.K.FieldKind.type_errors support c.args.catalog.now) names item) form c.in_ok-types.types)
     c.attrs_supported-support.ensures (c.in_ok-types.ensures.given names is))
     c.join.ensures

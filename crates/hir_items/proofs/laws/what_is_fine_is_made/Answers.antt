@@ -3,6 +3,7 @@ use Rattle.hir_fields.specs.Fields.{fields_errors, fields_form, out_fields_error
 use Rattle.hir_form.proofs.EmptyLemmas.{both_there, map_given}
 use Rattle.hir_heads.specs.Heads.{lifetime_errors, notes_errors}
 use Rattle.hir_heads.specs.Names.{name_errors}
+use Rattle.hir_mark_contexts.specs.declared.contexts.MarkContext.TheVariants as marked
 use Rattle.hir_methods.specs.Functions.{function_errors}
 use Rattle.hir_number.proofs.ElisionLemmas.{none_of}
 use Rattle.hir_items.proofs.FieldLemmas.{fields_formed, out_fields_formed}
@@ -21,7 +22,7 @@ returns-clause-structs c = λ s path place set item none.
     let marks = item_marks s.backend set item.attrs in
     let all = zero_size_errors item.fields item.methods ++ fields_errors s.backend s.catalog s.names item in
     let parts = none_of (at_item_itself path item.name (struct_errors s set item)) (type_method_reports s path item.name place set marks item.methods) none in
-    let own = (none_of (notes_errors s.backend (item_start set) item.docs item.attrs) (struct_own_errors s marks item) (untold path item.name (struct_errors s set item) parts.0)).1 in
+    let own = (none_of (notes_errors s.backend marked.Struct (item_start set) item.docs item.attrs) (struct_own_errors s marks item) (untold path item.name (struct_errors s set item) parts.0)).1 in
     let last = none_of (name_errors item.name ++ lifetime_errors item.lifetimes) (where_enabled marks all) own in
     let named = (none_of (name_errors item.name) (lifetime_errors item.lifetimes) last.0).1 in
     both_there (struct_with s.backend set item) (type_fields_form marks (fields_form s.backend s.catalog s.names item)) (type_method_form s place set marks item.methods)
@@ -33,7 +34,7 @@ returns-clause-out_structs c = λ s path place set item none.
     let marks = item_marks s.backend set item.attrs in
     let all = out_fields_errors s.backend s.catalog s.names item in
     let parts = none_of (at_item_itself path item.name (out_struct_errors s set item)) (type_method_reports s path item.name place set marks item.methods) none in
-    let own = (none_of (notes_errors s.backend (item_start set) item.docs item.attrs) (out_struct_own_errors s marks item) (untold path item.name (out_struct_errors s set item) parts.0)).1 in
+    let own = (none_of (notes_errors s.backend marked.OutStruct (item_start set) item.docs item.attrs) (out_struct_own_errors s marks item) (untold path item.name (out_struct_errors s set item) parts.0)).1 in
     let last = none_of (name_errors item.name ++ lifetime_errors item.lifetimes) (where_enabled marks all) own in
     let named = (none_of (name_errors item.name) (lifetime_errors item.lifetimes) last.0).1 in
     both_there (struct_with s.backend set item) (type_fields_form marks (out_fields_form s.backend s.catalog s.names item)) (type_method_form s place set marks item.methods)

@@ -6,6 +6,7 @@ use Rattle.bridge_decl.specs.Lifetimes.{IsSoundEnvironment}
 use Rattle.bridge_decl.specs.declared.methods.Method.{Method}
 use Rattle.hir_heads.specs.Heads.{notes_errors, notes_form}
 use Rattle.hir_heads.specs.declared.notes.Notes.{Notes}
+use Rattle.hir_mark_contexts.specs.declared.contexts.MarkContext.TheVariants as marked
 use Rattle.hir_methods.proofs.Outcomes.{and_so}
 use Rattle.hir_reports.specs.Store.{Held}
 use Rattle.hir_reports.specs.declared.report.LoweringError.{LoweringError}
@@ -45,7 +46,7 @@ returns-clause-told g c = λ names is.
     let s = setting (g.V.AttributeValidator.meaning c.args.lent.now.validator.now) c.args.lent.now names in
     let item = c.args.item.now in
     let set = c.args.module_set.now in
-    let of_notes = notes_errors s.backend (item_start set) item.docs item.attrs in
+    let of_notes = notes_errors s.backend marked.Struct (item_start set) item.docs item.attrs in
     let of_own : Notes → List LoweringError = λ n. struct_own_errors s n.attrs item in
     let of_methods : Notes → List Method → List (List ℕ) → List ℕ → List LoweringReport = λ n ms path name. type_method_reports s path name c.args.place set n.attrs ms in
     let parts : Parts of_notes of_own of_methods c.in_ok-notes.notes (notes_form s.backend (item_start set) item.docs item.attrs) c.as_slice-methods.result.now item.methods
@@ -66,7 +67,7 @@ returns-clause-made g c = λ names is.
     let s = setting (g.V.AttributeValidator.meaning c.args.lent.now.validator.now) c.args.lent.now names in
     let item = c.args.item.now in
     let set = c.args.module_set.now in
-    let of_notes = notes_errors s.backend (item_start set) item.docs item.attrs in
+    let of_notes = notes_errors s.backend marked.Struct (item_start set) item.docs item.attrs in
     let of_own : Notes → List LoweringError = λ n. struct_own_errors s n.attrs item in
     let of_methods : Notes → List Method → List (List ℕ) → List ℕ → List LoweringReport = λ n ms path name. type_method_reports s path name c.args.place set n.attrs ms in
     let parts : Parts of_notes of_own of_methods c.in_ok-notes.notes (notes_form s.backend (item_start set) item.docs item.attrs) c.as_slice-methods.result.now item.methods

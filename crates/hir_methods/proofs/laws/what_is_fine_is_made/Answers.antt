@@ -2,11 +2,14 @@ use Rattle.std.proofs.Common.{◌≡◌, ◌++◌, Option, None, Some, Bool, tru
 use Rattle.std.specs.Prelude.{if◌then◌else◌}
 use Rattle.bridge_grid.specs.Items.{free_function_faults}
 use Rattle.bridge_grid.specs.Telling.{fault_error}
-use Rattle.hir_attrs.specs.Reading.{marks_errors, marks_of}
+use Rattle.hir_attrs.specs.Reading.{marks_of}
 use Rattle.hir_docs.specs.Docs.{docs_errors}
 use Rattle.hir_form.proofs.EmptyLemmas.{map_given}
 use Rattle.hir_heads.specs.Heads.{lifetime_errors}
 use Rattle.hir_heads.specs.Names.{name_errors}
+use Rattle.hir_mark_contexts.specs.Told.{tested_errors}
+use Rattle.hir_mark_contexts.specs.declared.contexts.MarkContext.TheVariants as marked
+use Rattle.hir_methods.specs.Required.{method_param_errors}
 use Rattle.hir_number.proofs.ElisionLemmas.{none_of}
 use Rattle.hir_number.specs.Signatures.{without_writer}
 use Rattle.hir_methods.proofs.DisabledLemmas.{enabled_all}
@@ -28,9 +31,9 @@ returns-clause-method c = λ backend support config catalog names owner parent m
     let rest = enabled_errors backend support config catalog names owner method in
     let heading = heading_errors backend method.docs method.name method.abi_name method.lifetime_env in
     let receiver = receiver_mark_errors backend method.self_param in
-    let params = each_untyped_errors backend (without_writer method.params) in
+    let params = method_param_errors backend (without_writer method.params) in
     let types = method_type_errors support config catalog names owner method in
-    let all = none_of (heading ++ receiver ++ params) types (sym (enabled_all marks rest on) ∙ (none_of (marks_errors backend method.attrs parent) (unless_disabled marks rest) none).1) in
+    let all = none_of (heading ++ receiver ++ params) types (sym (enabled_all marks rest on) ∙ (none_of (tested_errors backend marked.Method method.attrs parent) (unless_disabled marks rest) none).1) in
     let head = (none_of heading receiver (none_of (heading ++ receiver) params all.0).0).0 in
     let named = (none_of (docs_errors backend method.docs ++ name_errors method.name ++ name_errors method.abi_name) (lifetime_errors method.lifetime_env) head).1 in
     ap (λ b. is_some (if b then None else enabled_form backend catalog names owner marks method)) on
@@ -42,7 +45,7 @@ pub returns-clause-function : goal.returns-clause-function
 returns-clause-function c = λ backend support config catalog names parent function none.
     let marks = marks_of backend function.attrs parent in
     let rest = callable_errors backend support config catalog names function in
-    let own = marks_errors backend function.attrs parent in
+    let own = tested_errors backend marked.Function function.attrs parent in
     let heading = heading_errors backend function.docs function.name function.abi_name function.lifetimes in
     let it = heading_form backend function.docs function.name function.abi_name in
     let form = callable_form backend catalog names marks it function in

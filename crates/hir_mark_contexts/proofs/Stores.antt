@@ -15,3 +15,9 @@ added_keeps earlier held es keeps = record {
 -- what is told after something else comes behind it
 pub told_both : (held : Held) (first second : List LoweringError) → added (added held first) second ≡ added held (first ++ second)
 told_both held first second = added_more held first second
+
+-- and so of four
+pub told_four : (held : Held) (ws xs ys zs : List LoweringError)
+    → added (added (added (added held ws) xs) ys) zs ≡ added held (ws ++ (xs ++ (ys ++ zs)))
+told_four held ws xs ys zs =
+    added_more (added (added held ws) xs) ys zs ∙ (added_more (added held ws) xs (ys ++ zs) ∙ added_more held ws (xs ++ (ys ++ zs)))

@@ -2,7 +2,7 @@ use Rattle.std.proofs.Common.{◌≡◌, take, []}
 use Rattle.bridge_ast.specs.Each.{each}
 use Rattle.bridge_ast.specs.EnvFaults.{nodes_named, node_faults}
 use Rattle.bridge_text.specs.NameIndex.{HasMeanings}
-use Rattle.bridge_ast.proofs.nodes.test_lifetimes.Given as goal
+use Rattle.bridge_ast.proofs.nodes.test_each.Given as goal
 
 abbrev pub invariant-loop-number : goal.invariant-loop-number
 invariant-loop-number l = record {

@@ -2,7 +2,7 @@ use Rattle.std.proofs.Common.{take}
 use Rattle.std.proofs.lemmas.Result.{err_from_is_err_and}
 use Rattle.bridge_ast.specs.EnvFaults.{nodes_named}
 use Rattle.bridge_ast.proofs.NodeLemmas.{node_kept, node_stopped, nodes_named_more}
-use Rattle.bridge_ast.proofs.nodes.test_lifetimes.Goals as goal
+use Rattle.bridge_ast.proofs.nodes.test_each.Goals as goal
 
 pub returns-in_err-test_node : goal.returns-in_err-test_node
 returns-in_err-test_node c =
