@@ -39,13 +39,14 @@ so_not : (b : Bool) → b ≡ false → not b ≡ true
 so_not true h = cc
 so_not false h = refl
 
-both_so : (a b : Bool) → a && not b ≡ true → (a ≡ true) × (b ≡ false)
-both_so true b h = (refl, not_so b h)
-both_so false b h = cc
+-- one thing and not another
+pub has_without : (a b : Bool) → a && not b ≡ true → (a ≡ true) × (b ≡ false)
+has_without true b h = (refl, not_so b h)
+has_without false b h = cc
 
-so_both : (a b : Bool) → a ≡ true → b ≡ false → a && not b ≡ true
-so_both true b h i = so_not b i
-so_both false b h i = cc
+pub but_not : (a b : Bool) → a ≡ true → b ≡ false → a && not b ≡ true
+but_not true b h i = so_not b i
+but_not false b h i = cc
 
 there : {A : Type 0} (x : Option A) → is_some x ≡ true → (a : A) × (x ≡ Some a)
 there None h = cc
@@ -139,32 +140,32 @@ module _ (backend : Backend) (context : MarkContext) (attrs : Attrs) where
   breaks_of : (e : LoweringError) → is_tested context attrs ≡ true → PlacingTold e → ContextBreaks backend context attrs e
   breaks_of e tested h = elim h [
     | inl m ↦
-        let so = both_so (has_mark m.0 attrs) (allows m.0 context) m.1.1.0 in
+        let so = has_without (has_mark m.0 attrs) (allows m.0 context) m.1.1.0 in
         misplaced e (mark_text m.0) tested (MarkMisplaced.mark m.0 so.0 so.1) m.1.1.1
     | inr rest ↦ elim rest [
       | inl s ↦ misplaced e (special_text (special_kind s.0)) tested (MarkMisplaced.special s.0 s.1.0 s.1.1.0) s.1.1.1
       | inr more ↦ elim more [
         | inl a ↦
-            let so = both_so (is_some attrs.abi_rename) (may_be_renamed context) a.0 in
+            let so = has_without (is_some attrs.abi_rename) (may_be_renamed context) a.0 in
             let pattern = there attrs.abi_rename so.0 in
             misplaced e (codes "abi_rename") tested (MarkMisplaced.abi_rename pattern.0 pattern.1 so.1) a.1
         | inr c ↦
-            let so = both_so (has_mark mark.CustomExtraCode attrs) (flag_on backend.supports flag.CustomBindings) c.0 in
+            let so = has_without (has_mark mark.CustomExtraCode attrs) (flag_on backend.supports flag.CustomBindings) c.0 in
             subst (λ d. ContextBreaks backend context attrs d) (sym c.1) (ContextBreaks.include_unsupported tested (record { includes = so.0; unsupported = so.1 }))
       ]
     ]
   ]
 
   placed : (name : List ℕ) → MarkMisplaced context attrs name → PlacingTold (about rule.MarkMisplaced name)
-  placed _ (MarkMisplaced.mark it has refuses) = inl (it, (mark_listed it, (so_both (has_mark it attrs) (allows it context) has refuses, refl)))
+  placed _ (MarkMisplaced.mark it has refuses) = inl (it, (mark_listed it, (but_not (has_mark it attrs) (allows it context) has refuses, refl)))
   placed _ (MarkMisplaced.special it is other) = inr (inl (it, (is, (other, refl))))
   placed _ (MarkMisplaced.abi_rename pattern is other) =
-      inr (inr (inl (so_both (is_some attrs.abi_rename) (may_be_renamed context) (is_there attrs.abi_rename pattern is) other, refl)))
+      inr (inr (inl (but_not (is_some attrs.abi_rename) (may_be_renamed context) (is_there attrs.abi_rename pattern is) other, refl)))
 
   told_of : (e : LoweringError) → ContextBreaks backend context attrs e → (is_tested context attrs ≡ true) × PlacingTold e
   told_of _ (ContextBreaks.mark_misplaced name tested breaks) = (tested, placed name breaks)
   told_of _ (ContextBreaks.include_unsupported tested breaks) =
-      (tested, inr (inr (inr (so_both (has_mark mark.CustomExtraCode attrs) (flag_on backend.supports flag.CustomBindings) breaks.includes breaks.unsupported, refl))))
+      (tested, inr (inr (inr (but_not (has_mark mark.CustomExtraCode attrs) (flag_on backend.supports flag.CustomBindings) breaks.includes breaks.unsupported, refl))))
 
   -- of a set in its context
   pub context_exactly : TellsExactly (context_errors backend context attrs) (ContextBreaks backend context attrs)

@@ -8,6 +8,7 @@ use Rattle.bridge_telling.specs.Telling.{TellsExactly}
 use Rattle.bridge_telling.proofs.ExactLemmas.{exactly_both, exactly_one, exactly_where, in_none}
 use Rattle.hir_attrs.specs.Reading.{about}
 use Rattle.hir_backends.specs.Backend.{Backend}
+use Rattle.hir_mark_rules.proofs.ContextLemmas.{but_not, has_without}
 use Rattle.hir_methods.specs.Required.{has_default, method_param_errors, required_error, required_errors}
 use Rattle.hir_methods.specs.Untyped.{each_untyped_errors}
 use Rattle.hir_reports.specs.declared.report.LoweringError.{LoweringError}
@@ -17,16 +18,6 @@ use Rattle.hir_rules.specs.rules.RequiredAfterDefault.{RequiredAfterDefault}
 use Rattle.hir_rules.proofs.HeadLemmas.{params_exactly}
 
 -- ---- tests
-
-both_so : (a b : Bool) → a && not b ≡ true → (a ≡ true) × (b ≡ false)
-both_so true true h = cc
-both_so true false h = (refl, refl)
-both_so false b h = cc
-
-so_both : (a b : Bool) → a ≡ true → b ≡ false → a && not b ≡ true
-so_both true true h i = cc
-so_both true false h i = refl
-so_both false b h i = cc
 
 or_none : (a : Bool) → a || false ≡ a
 or_none true = refl
@@ -58,7 +49,7 @@ module _ (backend : Backend) where
   first_of : (is_after : Bool) (param : Param) (params : List Param) (e : LoweringError) → Contains (required_error backend is_after param) e → OneRequired is_after (param ∷ params) e
   first_of is_after param params e h =
       let told = (one_exactly is_after param e).0 h in
-      let so = both_so is_after (has_default backend param) told.0 in
+      let so = has_without is_after (has_default backend param) told.0 in
       record { before = []; it = param; after = params; listed = refl; given = or_none is_after ∙ so.0; missing = so.1; says = told.1 }
 
   later_of : (is_after : Bool) (param : Param) (params : List Param) (e : LoweringError) → OneRequired (is_after || has_default backend param) params e → OneRequired is_after (param ∷ params) e
@@ -85,7 +76,7 @@ module _ (backend : Backend) where
       → Contains (required_errors backend is_after (before ++ it ∷ after)) e
   one_told is_after [] it after e given missing says =
       Contains-append_left (required_error backend is_after it) (required_errors backend (is_after || has_default backend it) after) e
-      ((one_exactly is_after it e).1 (so_both is_after (has_default backend it) (sym (or_none is_after) ∙ given) missing, says))
+      ((one_exactly is_after it e).1 (but_not is_after (has_default backend it) (sym (or_none is_after) ∙ given) missing, says))
   one_told is_after (param ∷ before) it after e given missing says =
       Contains-append_right (required_error backend is_after param) (required_errors backend (is_after || has_default backend param) (before ++ it ∷ after)) e
       (one_told (is_after || has_default backend param) before it after e (or_three is_after (has_default backend param) (list_any (has_default backend) before) ∙ given) missing says)
