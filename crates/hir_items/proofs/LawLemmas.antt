@@ -6,12 +6,15 @@ use Rattle.bridge_decl.specs.declared.methods.Method.{Method}
 use Rattle.hir_attrs.specs.Reading.{marks_of}
 use Rattle.hir_attrs.specs.declared.attrs.Attrs.{Attrs}
 use Rattle.hir_methods.specs.Methods.{method_errors}
+use Rattle.hir_number.proofs.ElisionLemmas.{none_of}
+use Rattle.hir_special.specs.Repeated.{none_seen}
 use Rattle.hir_items.proofs.MethodLemmas.{methods_formed}
 use Rattle.hir_items.specs.Inheriting.{method_start}
 use Rattle.hir_items.specs.Placing.{where_enabled}
+use Rattle.hir_items.specs.Repeated.{repeated_reports}
 use Rattle.hir_items.specs.Setting.{Setting}
 use Rattle.hir_items.specs.Structs.{type_fields_form}
-use Rattle.hir_items.specs.TypeMethods.{each_method_form, each_method_reports, one_method_form, type_method_form, type_method_reports}
+use Rattle.hir_items.specs.TypeMethods.{all_method_reports, each_method_form, each_method_reports, one_method_form, type_method_form, type_method_reports}
 
 by_flag : {A B : Type 0} (b : Bool) (told : List A) (form : Option (List B)) → (told ≡ [] → is_some form ≡ true) → (if b then [] else told) ≡ [] → is_some (if b then Some [] else form) ≡ true
 by_flag true told form fine none = refl
@@ -28,5 +31,9 @@ pub methods_there :
     → method_errors s.backend s.support s.config s.catalog s.names place (method_start set) method ≡ [] → IsSome (one_method_form s place set method))
     → (methods : List Method) → type_method_reports s path item place set marks methods ≡ [] → is_some (type_method_form s place set marks methods) ≡ true
 methods_there s path item place set marks fine methods none =
-    by_flag marks.disable (each_method_reports s path item place set methods) (each_method_form s place set methods)
-    (λ untold. ap is_some (methods_formed s path item place set fine methods untold)) none
+    by_flag marks.disable (all_method_reports s path item place set methods) (each_method_form s place set methods)
+    (λ untold.
+    ap is_some
+    (methods_formed s path item place set fine methods
+    (none_of (each_method_reports s path item place set methods) (repeated_reports s.backend s.support path item set none_seen methods) untold).0))
+    none

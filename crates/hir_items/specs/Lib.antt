@@ -1,6 +1,7 @@
 pub mod Setting
 pub mod Inheriting
 pub mod Placing
+pub mod Repeated
 pub mod TypeMethods
 pub mod Opaques
 pub mod Enums

@@ -1,5 +1,5 @@
 -- The methods of a type: what is told of each at its own place, and what they are lowered to.
-use Rattle.std.specs.Prelude.{ℕ, List, [], map, filter, Bool, not, Option, Some, if◌then◌else◌}
+use Rattle.std.specs.Prelude.{ℕ, List, [], ◌++◌, map, filter, Bool, not, Option, Some, if◌then◌else◌}
 use Rattle.std.specs.List.{flat_map}
 use Rattle.bridge_ast.specs.declared.place.ItemPlace.{ItemPlace}
 use Rattle.bridge_decl.specs.declared.methods.Method.{Method as DeclaredMethod}
@@ -10,8 +10,10 @@ use Rattle.hir_definitions.specs.declared.methods.Method.{Method}
 use Rattle.hir_form.specs.ParamForms.{all_given}
 use Rattle.hir_methods.specs.Methods.{method_errors, method_form}
 use Rattle.hir_reports.specs.declared.report.LoweringReport.{LoweringReport}
+use Rattle.hir_special.specs.Repeated.{none_seen}
 use Rattle.hir_items.specs.Inheriting.{method_start}
 use Rattle.hir_items.specs.Placing.{at_method_of, where_enabled}
+use Rattle.hir_items.specs.Repeated.{repeated_reports}
 use Rattle.hir_items.specs.Setting.{Setting}
 
 -- what is told of a method of the item of that name at the place, at the method
@@ -23,9 +25,14 @@ method_reports s path item place module_set method =
 abbrev pub each_method_reports : Setting → List (List ℕ) → List ℕ → ItemPlace → Attrs → List DeclaredMethod → List LoweringReport
 each_method_reports s path item place module_set methods = flat_map (method_reports s path item place module_set) methods
 
+-- of an enabled type: each method by itself, and then those that stand once and stand there before
+abbrev pub all_method_reports : Setting → List (List ℕ) → List ℕ → ItemPlace → Attrs → List DeclaredMethod → List LoweringReport
+all_method_reports s path item place module_set methods =
+    each_method_reports s path item place module_set methods ++ repeated_reports s.backend s.support path item module_set none_seen methods
+
 -- of a type with these marks: of a disabled one nothing is told of its methods
 abbrev pub type_method_reports : Setting → List (List ℕ) → List ℕ → ItemPlace → Attrs → Attrs → List DeclaredMethod → List LoweringReport
-type_method_reports s path item place module_set marks methods = where_enabled marks (each_method_reports s path item place module_set methods)
+type_method_reports s path item place module_set marks methods = where_enabled marks (all_method_reports s path item place module_set methods)
 
 -- whether a method is enabled
 abbrev pub is_enabled_method : Backend → Attrs → DeclaredMethod → Bool

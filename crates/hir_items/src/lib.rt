@@ -33,6 +33,12 @@
 //! lifetimes, the name of an opaque's destructor, and then what its kind has: that an opaque declares too many lifetimes, the variants of
 //! an enum, the fields of a struct. A struct without fields may have no methods, so that is told of `Nothing`; an out-struct may.
 //!
+//! # Special methods
+//!
+//! Whether a method is what its mark as a special one asks is told at the method, by `hir_methods`. That a type has two of a kind that
+//! stands once is no matter of one method: after all methods were gone through, it is told at the later one. So if `name` and `glyph`
+//! were both marked as a `comparison`, it would be told at `Face::glyph`.
+//!
 //! # Where marks start
 //!
 //! The marks of `Face` start from what a type takes over of the marks of `fonts`: the namespace is one of it. Those of its methods start
@@ -63,6 +69,7 @@ mod heads;
 mod laws;
 mod loans;
 mod opaques;
+mod repeated;
 mod structs;
 mod telling;
 mod type_methods;

@@ -7,11 +7,12 @@ ghost use Rattle.hir_modules.specs.Holding.{HoldsStill};
 ghost use Rattle.hir_reports.specs.Store.{at_subitem};
 ghost use Rattle.hir_number.specs.Naming.{IsNaming, Naming};
 ghost use Rattle.hir_items.specs.Setting.{setting};
-ghost use Rattle.hir_items.specs.TypeMethods.{each_method_reports, method_reports, one_method_form, type_method_form, type_method_reports};
+ghost use Rattle.hir_items.specs.TypeMethods.{all_method_reports, each_method_reports, method_reports, one_method_form, type_method_form, type_method_reports};
 ghost use Rattle.hir_items.specs.inside.Reported.{with_reports};
 
 use crate::choosing::{after, keep};
 use crate::loans::Lowering;
+use crate::repeated::tell_repeated;
 use bridge_ast::ItemPlace;
 use bridge_decl::{AttrInheritContext, Items, Method as Declared, NoMemory};
 use hir_attrs::Attrs;
@@ -95,6 +96,35 @@ fn add_methods<'tree, V: AttributeValidator>(
     Ok(())
 }
 
+/// The same, and tells of those that stand once on a type and stand there before.
+fn add_all_methods<'tree, V: AttributeValidator>(
+    lent: &Lowering<'_, V>,
+    place: ItemPlace,
+    module_set: &Attrs,
+    methods: &'tree [Declared],
+    lowered: &mut Items<Method>,
+    errors: &mut ErrorStore<'tree>,
+) -> Result<(), NoMemory>
+    requires number { place.«module» < length lent.now.env.now }
+    requires sound { All IsSoundEnvironment (map (λ method. method.lifetime_env) methods.now) }
+    ensures told { (names : Naming) → IsNaming lent.now.env.now place.«module» names
+        → OnOk result (errors.new ≡ with_reports (at_subitem errors.old None)
+        (all_method_reports
+        (setting (V.meaning lent.now.validator.now) lent.now names) errors.old.place.«module»
+        errors.old.place.item place module_set.now methods.now)) }
+    ensures made { (names : Naming) → IsNaming lent.now.env.now place.«module» names
+        → OnOk result (all_method_reports
+        (setting (V.meaning lent.now.validator.now) lent.now names) errors.old.place.«module»
+        errors.old.place.item place module_set.now methods.now ≡ []
+        → lowered.new ≡ lowered.old ++ filter_map (one_method_form
+        (setting (V.meaning lent.now.validator.now) lent.now names) place module_set.now)
+        methods.now) }
+    ensures kept { HoldsStill errors.old errors.new }
+{
+    add_methods(lent, place, module_set, methods, lowered, errors)?;
+    tell_repeated(lent, module_set, methods, errors)
+}
+
 /// The methods of the item of the store, a type with these marks: the enabled ones, in order, and
 /// none where the type is disabled. What is wrong in one is told at it, and keeps no other from being
 /// told. Where something is told, what is made is of no use.
@@ -127,6 +157,6 @@ pub(crate) fn lower_type_methods<'tree, V: AttributeValidator>(
         errors.clear_subitem();
         return Ok(lowered);
     }
-    let done = add_methods(lent, place, module_set, methods, &mut lowered, errors);
+    let done = add_all_methods(lent, place, module_set, methods, &mut lowered, errors);
     after(lowered, done)
 }

@@ -22,6 +22,7 @@ mod paths;
 mod pending;
 mod signatures;
 mod slices;
+mod special;
 mod types;
 mod usage;
 mod values;

@@ -4,3 +4,4 @@ pub mod FormLemmas
 pub mod WriterLemmas
 pub mod Outcomes
 pub mod DisabledLemmas
+pub mod SpecialLemmas

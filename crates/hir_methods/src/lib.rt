@@ -37,6 +37,11 @@
 //! a number among the functions: its heading is tested too, and it is made without lifetimes, parameters and a return
 //! ([`lower_function`]). An enabled one needs a backend that has functions outside types.
 //!
+//! # Special methods
+//!
+//! Marked as a `getter`, `turn` would break `SpecialParams`, since it takes something. What a method is marked as is tested by
+//! `hir_special`, of what was made of it: so it is told last, and only where nothing else is told of the method.
+//!
 //! # What is made
 //!
 //! Where nothing is told, what is enabled is made, and for no other reason is it left out ([`what_is_fine_is_made`]). The names and the
@@ -54,6 +59,7 @@ mod methods;
 mod params;
 mod reading;
 mod required;
+mod special;
 mod types;
 mod whole;
 mod writers;

@@ -3,7 +3,7 @@
 ghost use Rattle.std.specs.Prelude.{◌≡◌, ◌<◌, IfOk, OnOk, length};
 ghost use Rattle.bridge_decl.specs.Lifetimes.{IsSoundEnvironment};
 ghost use Rattle.hir_heads.specs.Told.{MadeUnlessTold};
-ghost use Rattle.hir_methods.specs.Methods.{enabled_errors, enabled_form, method_errors, method_form};
+ghost use Rattle.hir_methods.specs.Methods.{enabled_errors, enabled_form, method_errors, method_form, plain_method_errors};
 ghost use Rattle.hir_methods.specs.Types.{unless_told};
 ghost use Rattle.hir_methods.specs.inside.Parts.{GivenUnlessTold};
 ghost use Rattle.hir_methods.specs.inside.Gathering.{apart_errors, apart_form};
@@ -14,6 +14,7 @@ use crate::choosing::{beside, kept_if};
 use crate::headings::lower_heading;
 use crate::params::read_receiver;
 use crate::required::lower_method_params;
+use crate::special::{keep_special, owner_id};
 use crate::types::lower_method_types;
 use crate::whole::{Untyped, gather, join_whole};
 use bridge_ast::{Env, ItemPlace};
@@ -108,10 +109,10 @@ fn lower_marked<V: AttributeValidator>(
     requires number { number < length env.now }
     requires sound { IsSoundEnvironment method.now.lifetime_env }
     ensures told { (names : Naming) → IsNaming env.now number names
-        → OnOk result (errors.new ≡ added errors.old (method_errors (V.meaning validator.now)
-        support.now config catalog.now names owner parent method.now)) }
+        → OnOk result (errors.new ≡ added errors.old (plain_method_errors
+        (V.meaning validator.now) support.now config catalog.now names owner parent method.now)) }
     ensures made { (names : Naming) → IsNaming env.now number names
-        → IfOk result (GivenUnlessTold (method_errors (V.meaning validator.now)
+        → IfOk result (GivenUnlessTold (plain_method_errors (V.meaning validator.now)
         support.now config catalog.now names owner parent method.now)
         (method_form (V.meaning validator.now) catalog.now names owner parent method.now)) }
     ensures kept { (earlier : Held) → Keeps earlier errors.old → Keeps earlier errors.new }
@@ -126,9 +127,42 @@ fn lower_marked<V: AttributeValidator>(
     )
 }
 
-/// A method of the type there, which is told with all that is wrong in it, in order. Its marks start
-/// from those that are handed in. None exactly where it is disabled, of which the marks alone are
-/// read, or where something is told. `NoMemory` where there is no memory for it or for the reports.
+/// A method of the type there, which is told with all that is wrong in it but for what it is marked as.
+fn lower_plain<V: AttributeValidator>(
+    alloc: Global,
+    env: &Env,
+    number: usize,
+    owner: ItemPlace,
+    method: &Declared,
+    parent: Attrs,
+    validator: &V,
+    support: &BackendAttrSupport,
+    config: LoweringConfig,
+    catalog: &Catalog,
+    errors: &mut ErrorStore<'_>,
+) -> Result<Option<Method>, NoMemory>
+    requires number { number < length env.now }
+    requires sound { IsSoundEnvironment method.now.lifetime_env }
+    ensures told { (names : Naming) → IsNaming env.now number names
+        → OnOk result (errors.new ≡ added errors.old (plain_method_errors
+        (V.meaning validator.now) support.now config catalog.now names owner parent
+        method.now)) }
+    ensures made { (names : Naming) → IsNaming env.now number names
+        → IfOk result (λ made. made ≡ unless_told (plain_method_errors
+        (V.meaning validator.now) support.now config catalog.now names owner parent method.now)
+        (method_form (V.meaning validator.now) catalog.now names owner parent method.now)) }
+    ensures kept { (earlier : Held) → Keeps earlier errors.old → Keeps earlier errors.new }
+{
+    let before = errors.len();
+    let made = lower_marked(
+        alloc, env, number, owner, method, parent, validator, support, config, catalog, errors,
+    )?;
+    Ok(kept_if(errors.len() == before, made))
+}
+
+/// A method of the type there, which is told with all that is wrong in it, in order, and where nothing is,
+/// with what it breaks as a special method. Its marks start from those that are handed in. None exactly
+/// where it is disabled, of which the marks alone are read, or where something is told. `NoMemory` where there is no memory for it or for the reports.
 pub fn lower_method<V: AttributeValidator>(
     alloc: Global,
     env: &Env,
@@ -153,9 +187,11 @@ pub fn lower_method<V: AttributeValidator>(
         (method_form (V.meaning validator.now) catalog.now names owner parent method.now)) }
     ensures kept { (earlier : Held) → Keeps earlier errors.old → Keeps earlier errors.new }
 {
-    let before = errors.len();
-    let made = lower_marked(
+    let made = lower_plain(
         alloc, env, number, owner, method, parent, validator, support, config, catalog, errors,
     )?;
-    Ok(kept_if(errors.len() == before, made))
+    match made {
+        Some(made) => keep_special(alloc, support, owner_id(catalog.entry(owner)), made, errors),
+        None => Ok(None),
+    }
 }

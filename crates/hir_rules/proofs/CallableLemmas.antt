@@ -1,6 +1,7 @@
 -- What is told of methods, functions and traits' methods is what the rules on them say.
-use Rattle.std.proofs.Common.{◌≡◌, ◌⊎◌, [], ◌++◌, map}
+use Rattle.std.proofs.Common.{◌≡◌, ◌⊎◌, List, [], ◌∷◌, ◌++◌, map, Option, Some, None, refl, subst, sym}
 use Rattle.std.specs.Prelude.{⊤}
+use Rattle.std.specs.List.{Contains}
 use Rattle.bridge_ast.specs.declared.place.ItemPlace.{ItemPlace}
 use Rattle.bridge_decl.specs.declared.functions.Function.{Function}
 use Rattle.bridge_decl.specs.declared.methods.Method.{Method}
@@ -9,15 +10,18 @@ use Rattle.bridge_grid.proofs.CellLemmas.{tells_denied}
 use Rattle.bridge_grid.specs.ItemBreaks.{FreeFunctionBreaks}
 use Rattle.bridge_grid.specs.Items.{free_function_faults}
 use Rattle.bridge_grid.specs.Telling.{fault_error}
+use Rattle.bridge_order.specs.Catalog.{entry_at}
 use Rattle.bridge_telling.specs.Telling.{TellsExactly, TellsGiven}
-use Rattle.bridge_telling.proofs.ExactLemmas.{exactly_both}
+use Rattle.bridge_telling.proofs.ExactLemmas.{exactly_both, in_none}
 use Rattle.bridge_telling.proofs.GivenLemmas.{given_after, given_both, given_exactly, given_more, given_unless}
 use Rattle.hir_attrs.specs.Reading.{marks_errors, marks_of}
 use Rattle.hir_attrs.specs.declared.attrs.Attrs.{Attrs}
 use Rattle.hir_backends.specs.declared.support.flag.SupportFlag.TheVariants as flag
+use Rattle.hir_definitions.specs.declared.methods.Method.{Method as LoweredMethod}
 use Rattle.hir_docs.specs.Docs.{docs_errors}
 use Rattle.hir_heads.specs.Heads.{lifetime_errors}
 use Rattle.hir_heads.specs.Names.{name_errors}
+use Rattle.hir_ids.specs.declared.ids.TypeId.{TypeId}
 use Rattle.hir_items.specs.Setting.{Setting}
 use Rattle.hir_mark_contexts.specs.Told.{tested_errors}
 use Rattle.hir_mark_contexts.specs.declared.contexts.MarkContext.TheVariants as marked
@@ -27,15 +31,17 @@ use Rattle.hir_mark_rules.proofs.MarksLemmas.{marks_exactly}
 use Rattle.hir_mark_rules.specs.ContextBreaks.{TestedMarksBreak}
 use Rattle.hir_mark_rules.specs.MarkBreaks.{DocsBreak, MarksBreak}
 use Rattle.hir_methods.specs.Functions.{callable_errors, function_errors}
-use Rattle.hir_methods.specs.Methods.{enabled_errors, method_errors}
+use Rattle.hir_methods.specs.Methods.{enabled_errors, made_errors, method_errors, method_form, owner_id, plain_method_errors}
 use Rattle.hir_methods.specs.Required.{method_param_errors}
-use Rattle.hir_methods.specs.Types.{function_type_errors, method_type_errors}
+use Rattle.hir_methods.specs.Types.{function_type_errors, method_type_errors, unless_told}
 use Rattle.hir_methods.specs.Untyped.{each_untyped_errors, heading_errors, receiver_mark_errors, unless_disabled}
 use Rattle.hir_number.specs.Signatures.{without_writer}
 use Rattle.hir_reports.specs.declared.report.LoweringError.{LoweringError}
 use Rattle.hir_traits.specs.TraitMethods.{enabled_trait_method_errors, param_name_errors, trait_method_errors, trait_method_head_errors}
 use Rattle.hir_traits.specs.TraitTypes.{trait_method_type_errors}
-use Rattle.hir_rules.specs.Callables.{EnabledFunctionBreaks, EnabledMethodBreaks, EnabledTraitMethodBreaks, FunctionBreaks, MethodBreaks, TraitMethodBreaks}
+use Rattle.hir_special_rules.specs.SpecialBreaks.{SpecialBreaks}
+use Rattle.hir_special_rules.proofs.SpecialLemmas.{special_exactly}
+use Rattle.hir_rules.specs.Callables.{EnabledFunctionBreaks, EnabledMethodBreaks, EnabledTraitMethodBreaks, FunctionBreaks, MethodBreaks, PlainMethodBreaks, SpecialMethodBreaks, TraitMethodBreaks}
 use Rattle.hir_rules.specs.Heads.{HeadingBreaks, IsEnabled, ParamHeadsBreak, ParamNamesBreak, ReceiverMarksBreak}
 use Rattle.hir_rules.specs.Types.{AsFaultErrors, FunctionTypesBreak, MethodTypesBreak, TraitMethodTypesBreak}
 use Rattle.hir_rules.specs.rules.BadIdent.{BadIdent, BadLifetimeIdent}
@@ -68,13 +74,39 @@ module _ (s : Setting) where
       (λ g. second_none ((docs_errors s.backend method.docs ++ name_errors method.name) ++ name_errors method.abi_name) (lifetime_errors method.lifetime_env) g.1)
       (method_types_told s.support s.config s.catalog s.names owner method)))))
 
-  pub method_told : (owner : ItemPlace) (start : Attrs) (method : Method) → TellsGiven ⊤ (method_errors s.backend s.support s.config s.catalog s.names owner start method) (MethodBreaks s owner start method)
-  method_told owner start method =
+  plain_told : (owner : ItemPlace) (start : Attrs) (method : Method)
+      → TellsGiven ⊤ (plain_method_errors s.backend s.support s.config s.catalog s.names owner start method) (PlainMethodBreaks s owner start method)
+  plain_told owner start method =
       let marks = marks_of s.backend method.attrs start in
       let enabled = enabled_errors s.backend s.support s.config s.catalog s.names owner method in
       given_both ⊤ (tested_errors s.backend marked.Method method.attrs start) (unless_disabled marks enabled) (TestedMarksBreak s.backend marked.Method method.attrs start) (λ e. IsEnabled marks × EnabledMethodBreaks s owner method e)
       (given_exactly ⊤ (tested_errors s.backend marked.Method method.attrs start) (TestedMarksBreak s.backend marked.Method method.attrs start) (tested_exactly s.backend marked.Method method.attrs start))
       (given_unless ⊤ marks.disable enabled (EnabledMethodBreaks s owner method) (enabled_told owner method))
+
+  -- what is told of one that was made, given that nothing else is
+  abbrev Special : TypeId → Option LoweredMethod → LoweringError → Type 0
+  Special id form e = (made : LoweredMethod) × ((form ≡ Some made) × SpecialBreaks s.support id made e)
+
+  special_each : (id : TypeId) (told : List LoweringError) (form : Option LoweredMethod) (e : LoweringError) → Contains (made_errors s.support id (unless_told told form)) e → Special id form e
+  special_each id [] None e h = absurd (in_none e h)
+  special_each id [] (Some made) e h = (made, (refl, (special_exactly s.support id made e).0 h))
+  special_each id (x ∷ xs) form e h = absurd (in_none e h)
+
+  special_some : (id : TypeId) (told : List LoweringError) (form : Option LoweredMethod) → told ≡ [] → (e : LoweringError) → Special id form e
+      → (one : LoweringError) × Contains (made_errors s.support id (unless_told told form)) one
+  special_some id told form none e h = (
+    e,
+    subst (λ es. Contains (made_errors s.support id (unless_told es form)) e) (sym none)
+        (subst (λ f. Contains (made_errors s.support id f) e) (sym h.1.0) ((special_exactly s.support id h.0 e).1 h.1.1)),
+  )
+
+  pub method_told : (owner : ItemPlace) (start : Attrs) (method : Method) → TellsGiven ⊤ (method_errors s.backend s.support s.config s.catalog s.names owner start method) (MethodBreaks s owner start method)
+  method_told owner start method =
+      let plain = plain_method_errors s.backend s.support s.config s.catalog s.names owner start method in
+      let form = method_form s.backend s.catalog s.names owner start method in
+      let id = owner_id (entry_at s.catalog owner) in
+      given_after ⊤ plain (made_errors s.support id (unless_told plain form)) (PlainMethodBreaks s owner start method) (SpecialMethodBreaks s owner start method) (plain_told owner start method)
+      (record { each = λ e h. special_each id plain form e h; some = λ g e h. special_some id plain form g.1 e h })
 
   -- ---- functions
 

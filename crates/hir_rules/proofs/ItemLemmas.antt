@@ -20,7 +20,7 @@ use Rattle.bridge_grid.specs.Telling.{fault_error}
 use Rattle.bridge_telling.specs.Telling.{TellsExactly, TellsGiven, TellsPlaces}
 use Rattle.bridge_telling.proofs.ExactLemmas.{exactly_both, in_first, in_none, in_one}
 use Rattle.bridge_telling.proofs.GivenLemmas.{given_after, given_both, given_exactly, given_more, given_unless}
-use Rattle.bridge_telling.proofs.PlaceLemmas.{places_both, places_each, places_map, places_unless}
+use Rattle.bridge_telling.proofs.PlaceLemmas.{places_both, places_each, places_exactly, places_map, places_unless}
 use Rattle.hir_attrs.specs.declared.attrs.Attrs.{Attrs}
 use Rattle.hir_elide.specs.Numbering.{most}
 use Rattle.hir_fields.specs.Fields.{out_type_errors, struct_type_errors}
@@ -34,6 +34,7 @@ use Rattle.hir_items.specs.FreeFunctions.{function_reports}
 use Rattle.hir_items.specs.Inheriting.{item_marks, item_start, method_start}
 use Rattle.hir_items.specs.Opaques.{limit_errors, opaque_errors, opaque_reports}
 use Rattle.hir_items.specs.Placing.{at_item_itself, at_method_of, where_enabled}
+use Rattle.hir_items.specs.Repeated.{repeated_reports}
 use Rattle.hir_items.specs.Setting.{Setting}
 use Rattle.hir_items.specs.Structs.{out_struct_errors, out_struct_reports, struct_errors, struct_reports, zero_size_errors}
 use Rattle.hir_items.specs.TypeMethods.{method_reports, type_method_reports}
@@ -48,6 +49,7 @@ use Rattle.hir_reports.specs.declared.places.ErrorContext.{ErrorContext}
 use Rattle.hir_reports.specs.declared.report.LoweringError.{LoweringError}
 use Rattle.hir_reports.specs.declared.report.LoweringReport.{LoweringReport}
 use Rattle.hir_reports.specs.declared.rule.Rule.TheVariants as rule
+use Rattle.hir_special.specs.Repeated.{none_seen}
 use Rattle.hir_traits.specs.TraitMethods.{trait_method_errors}
 use Rattle.hir_traits.specs.Traits.{own_trait_errors, trait_name_errors, trait_reports}
 use Rattle.hir_rules.specs.Callables.{FunctionBreaks, MethodBreaks, TraitMethodBreaks}
@@ -55,11 +57,13 @@ use Rattle.hir_rules.specs.Heads.{FieldHeadsBreak, IsEnabled, NotesBreak, Varian
 use Rattle.hir_rules.specs.Items.{AtItem, AtMethod, EnumBreaks, LimitBreaks, MethodsBreak, OpaqueBreaks, OutStructBreaks, StructBreaks, TraitItselfBreaks, TraitMethodsBreak}
 use Rattle.hir_rules.specs.Types.{AsFaultErrors, FieldTypeBreaks, FieldTypesBreak, OutFieldTypeBreaks}
 use Rattle.hir_rules.specs.rules.BadIdent.{BadIdent, BadLifetimeIdent}
+use Rattle.hir_rules.specs.rules.SpecialRepeated.{SpecialRepeated}
 use Rattle.hir_rules.specs.rules.TooManyLifetimes.{DeclaresTooMany}
 use Rattle.hir_rules.specs.rules.ZeroSizeMethods.{ZeroSizeMethods}
 use Rattle.hir_rules.proofs.AppendLemmas.{in_four, in_three}
 use Rattle.hir_rules.proofs.CallableLemmas.{function_told, method_told, trait_method_told}
 use Rattle.hir_rules.proofs.HeadLemmas.{field_heads_exactly, lifetimes_exactly, name_exactly, notes_exactly, variants_exactly}
+use Rattle.hir_rules.proofs.RepeatedLemmas.{repeated_exactly}
 use Rattle.hir_rules.proofs.TypeLemmas.{as_faults, field_type_told, field_types_told, out_field_type_told}
 use Rattle.hir_rules.proofs.PathLemmas.{not_false}
 
@@ -209,10 +213,15 @@ module _ (s : Setting) (path : List (List ℕ)) (place : ItemPlace) (set : Attrs
   pub methods_told : (name : List ℕ) (marks : Attrs) (methods : List Method)
       → TellsPlaces where_told (type_method_reports s path name place set marks methods) (MethodsBreak s path name place set marks methods)
   methods_told name marks methods =
-      places_unless where_told marks.disable (flat_map (method_reports s path name place set) methods)
-      (λ r. (m : Method) × (Contains methods m × AtMethod path name m.name (MethodBreaks s place (method_start set) m) r))
+      let each = flat_map (method_reports s path name place set) methods in
+      let repeated = repeated_reports s.backend s.support path name set none_seen methods in
+      let Each : LoweringReport → Type 0 = λ r. (m : Method) × (Contains methods m × AtMethod path name m.name (MethodBreaks s place (method_start set) m) r) in
+      let Repeated : LoweringReport → Type 0 = λ r. (m : Method) × AtMethod path name m.name (SpecialRepeated s set methods m) r in
+      places_unless where_told marks.disable (each ++ repeated) (λ r. Each r ⊎ Repeated r)
+      (places_both where_told each repeated Each Repeated
       (places_each where_told (method_reports s path name place set) (λ m r. AtMethod path name m.name (MethodBreaks s place (method_start set) m) r)
       (λ m. at_method_told path name m.name (method_errors s.backend s.support s.config s.catalog s.names place (method_start set) m) (MethodBreaks s place (method_start set) m) (method_told s place (method_start set) m)) methods)
+      (places_exactly where_told repeated Repeated (repeated_exactly s path name set methods)))
 
   pub struct_reports_told : (item : Struct) → TellsPlaces where_told (struct_reports s path place set item)
       (λ r. AtItem path item.name (StructBreaks s set item) r ⊎ MethodsBreak s path item.name place set (item_marks s.backend set item.attrs) item.methods r)

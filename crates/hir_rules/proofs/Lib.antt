@@ -7,6 +7,7 @@ pub mod TypeLemmas
 pub mod AppendLemmas
 pub mod HeadLemmas
 pub mod RequiredLemmas
+pub mod RepeatedLemmas
 pub mod CallableLemmas
 pub mod ItemLemmas
 pub mod WalkLemmas

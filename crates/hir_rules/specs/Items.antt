@@ -27,6 +27,7 @@ use Rattle.hir_rules.specs.Heads.{FieldHeadsBreak, IsEnabled, NotesBreak, Varian
 use Rattle.hir_rules.specs.Types.{AsFaultErrors, FieldTypeBreaks, FieldTypesBreak, OutFieldTypeBreaks}
 use Rattle.hir_rules.specs.rules.BadIdent.{BadIdent, BadLifetimeIdent}
 use Rattle.hir_rules.specs.rules.TooManyLifetimes.{DeclaresTooMany}
+use Rattle.hir_rules.specs.rules.SpecialRepeated.{SpecialRepeated}
 use Rattle.hir_rules.specs.rules.ZeroSizeMethods.{ZeroSizeMethods}
 
 -- ---- at the item itself
@@ -98,10 +99,11 @@ AtItem path name Breaks report = (error : LoweringError) × (Breaks error × (re
 abbrev pub AtMethod : List (List ℕ) → List ℕ → List ℕ → (LoweringError → Type 0) → LoweringReport → Type 0
 AtMethod path name method Breaks report = (error : LoweringError) × (Breaks error × (report ≡ told_at (at_place path name (Some method)) error))
 
--- one of the methods of an enabled type there
+-- one of the methods of an enabled type there: by itself, or after those before it
 abbrev pub MethodsBreak : Setting → List (List ℕ) → List ℕ → ItemPlace → Attrs → Attrs → List Method → LoweringReport → Type 0
 MethodsBreak s path name place set marks methods report =
-    IsEnabled marks × ((m : Method) × (Contains methods m × AtMethod path name m.name (MethodBreaks s place (method_start set) m) report))
+    IsEnabled marks × (((m : Method) × (Contains methods m × AtMethod path name m.name (MethodBreaks s place (method_start set) m) report))
+    ⊎ ((m : Method) × AtMethod path name m.name (SpecialRepeated s set methods m) report))
 
 -- one of the methods of an enabled trait there
 abbrev pub TraitMethodsBreak : Setting → List (List ℕ) → List ℕ → ItemPlace → Attrs → List TraitMethod → LoweringReport → Type 0

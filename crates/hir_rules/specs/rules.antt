@@ -9,3 +9,4 @@ pub mod ElisionAmbiguous
 pub mod TooManyLifetimes
 pub mod ZeroSizeMethods
 pub mod RequiredAfterDefault
+pub mod SpecialRepeated

@@ -36,8 +36,8 @@
 //! # Where the rules stand
 //!
 //! The rules on names, paths and lifetimes are here, `specs/rules`; those on marks in
-//! `hir_mark_rules`, those on types where they stand in `bridge_grid`, and those on how structs
-//! nest in `hir_nesting_rules`. Which parts are looked at in what is disabled say `specs/Callables`
+//! `hir_mark_rules`, those on special methods in `hir_special_rules`, those on types where they stand
+//! in `bridge_grid`, and those on how structs nest in `hir_nesting_rules`. Which parts are looked at in what is disabled say `specs/Callables`
 //! and `specs/Items`.
 //!
 //! The rules are those of the crate `diplomat_core`, module `hir::lowering`, where this

@@ -1,0 +1,6 @@
+pub mod Receivers
+pub mod Operands
+pub mod Returns
+pub mod Support
+pub mod Told
+pub mod Repeated
