@@ -1,46 +1,30 @@
 -- No chain of structs that leaves are counted in has more than 256 of them: it is one of the structs of the context.
-use Rattle.std.proofs.Common.{◌≡◌, ◌<◌, ◌≤◌, ◌+◌, inl, inr, ℕ, zero, suc, zero-add, Bool, true, false, cond, List, [], ◌∷◌, ◌++◌, length, map, nat_lt, Option, Some, None, option_map, slice_get, refl, sym, ap, subst, ◌∙◌, arith}
-use Rattle.std.specs.Prelude.{if◌then◌else◌, min, slice_index_or}
-use Rattle.std.specs.List.{Contains, cons_option, filter_map, flat_map}
-use Rattle.std.proofs.Math.Logic.{∥∥₁_elim}
-use Rattle.std.proofs.lemmas.Bool.{lt-ltb, ltb-true}
+use Rattle.std.proofs.Common.{◌≡◌, ◌<◌, ◌≤◌, inl, inr, ℕ, zero, suc, Bool, true, false, cond, List, [], ◌∷◌, length, map, nat_lt, Option, Some, None, option_map, slice_get, refl, sym, ap, subst, ◌∙◌, arith}
+use Rattle.std.specs.Prelude.{min, slice_index_or}
+use Rattle.std.specs.List.{Contains, flat_map}
+use Rattle.std.proofs.lemmas.Bool.{ltb-true}
 use Rattle.std.proofs.lemmas.List.{length-map}
-use Rattle.std.proofs.lemmas.List.Elements.{Contains-append_cases, Contains-append_left, Contains-append_right}
-use Rattle.std.proofs.lemmas.Option.{get_or_from_slice_get, slice_get-map}
-use Rattle.std.specs.Coded.{le_prop}
+use Rattle.std.proofs.lemmas.List.Elements.{Contains-append_cases}
+use Rattle.std.proofs.lemmas.Option.{slice_get-map}
 use Rattle.bridge_leaves.specs.inside.Counting.{most_counted, struct_number_below, struct_here, structs_among}
 use Rattle.bridge_leaves.specs.inside.Totals.{AreCounts}
 use Rattle.bridge_leaves.proofs.CountLemmas.{count, counted_at, graph, own, row_of}
 use Rattle.definition_graph.specs.Reaching.{ChainLeads, Edge, IsGraph, ReachesByEdges, successors}
 use Rattle.definition_graph.specs.Surveying.{AreDepths, IsChain, IsDepth, IsLongestChain}
 use Rattle.definition_graph.specs.Totals.{AreTotals}
-use Rattle.hir_context.specs.Fitness.{AllFit, nesting_of}
+use Rattle.hir_context.specs.Fitness.{nesting_of}
 use Rattle.hir_context.specs.Lookups.{InputStruct}
-use Rattle.hir_context.specs.declared.context.TypeContext.{TypeContext}
 use Rattle.hir_context.specs.declared.parts.Definitions.{Definitions}
-use Rattle.hir_definitions.specs.declared.definitions.StructField.{StructField}
 use Rattle.hir_ids.specs.declared.ids.TypeId.{TypeId}
 use Rattle.hir_ids.specs.declared.ids.TypeId.TheVariants as type
-use Rattle.hir_ids.specs.declared.owners.Borrow.{Borrow}
-use Rattle.hir_life.specs.declared.maybe_static.MaybeStatic.{MaybeStatic}
-use Rattle.hir_mentions.specs.Containing.{contained_in, contained_in_type, contained_step}
 use Rattle.hir_nesting.proofs.Judging.{no_fault}
 use Rattle.hir_nesting.specs.Faults.{AllNestWell}
-use Rattle.hir_nesting.specs.Structs.{each_contained, struct_number, struct_numbers}
 use Rattle.hir_nesting.specs.declared.fault.NestingFault.TheVariants as fault
 use Rattle.hir_skeleton.proofs.Containment.{AgreesBelow, Layer, edge_to, ids_inside, node, node_within, none_carried, place_of}
 use Rattle.hir_skeleton.proofs.Members.{first_is_there, later_is_there, member_cases, none_in_nothing}
-use Rattle.hir_skeleton.specs.Lowered.{carrier_of, field_skeleton, input_fields, skeleton_step}
+use Rattle.hir_skeleton.specs.Lowered.{input_fields, skeleton_step}
 use Rattle.hir_skeleton.specs.Skeletons.{Skeleton, Nothing, Carrier, Struct}
-use Rattle.hir_types.specs.Paths.{returnable_id}
-use Rattle.hir_types.specs.SelfTypes.{FieldType}
-use Rattle.hir_types.specs.declared.callbacks.NoCallback.{NoCallback}
-use Rattle.hir_types.specs.declared.paths.NoTraitPath.{NoTraitPath}
-use Rattle.hir_types.specs.declared.paths.StructPath.{StructPath}
-use Rattle.hir_types.specs.declared.positions.Everywhere.{Everywhere}
-use Rattle.hir_types.specs.declared.types.HirType.{map-HirType}
 use Rattle.hir_types.specs.declared.types.HirType.TheOpen.{HirType-F}
-use Rattle.hir_types.specs.declared.types.HirType.TheFolds.{fold-roll-HirType, ind-HirType}
 
 -- ---- what is contained in a type is what its skeleton has
 

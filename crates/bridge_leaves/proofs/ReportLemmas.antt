@@ -1,5 +1,5 @@
--- Counts of inputs, and reports of callables one after another.
-use Rattle.std.proofs.Common.{◌≡◌, ◌<◌, ◌≤◌, ◌+◌, inl, inr, ℕ, zero, suc, List, [], ◌∷◌, ◌++◌, length, get_or, take, map, Option, Some, None, Ok, Err, Result, slice_get, refl, sym, ap, subst, ◌∙◌, arith, append_assoc}
+-- Counts of inputs, and callables one after another.
+use Rattle.std.proofs.Common.{◌≡◌, ◌<◌, ◌≤◌, ◌+◌, inl, inr, ℕ, zero, suc, List, [], ◌∷◌, ◌++◌, length, get_or, take, map, Bool, Option, Some, None, Ok, Err, Result, slice_get, refl, sym, ap, subst, ◌∙◌, arith, append_assoc}
 use Rattle.std.specs.Prelude.{◌⊎◌, IfOk, IfSome, min}
 use Rattle.std.proofs.Math.Nat.{min-eq_left, min-eq_right}
 use Rattle.std.specs.List.{sum_by}
@@ -9,10 +9,10 @@ use Rattle.bridge_leaves.specs.inside.Totals.{AreCounts, CountsInputs, CountsTyp
 use Rattle.bridge_leaves.proofs.ChainLemmas.{totals_count}
 use Rattle.hir_skeleton.proofs.Containment.{context_well}
 use Rattle.bridge_leaves.proofs.CountLemmas.{fields_length, none_without, one_alone}
-use Rattle.bridge_leaves.proofs.RowLemmas.{joined_next, sum_more}
+use Rattle.bridge_leaves.proofs.RowLemmas.{map_next, sum_more}
 use Rattle.bridge_report.proofs.Listed.{listed_callable}
 use Rattle.bridge_report.specs.InContext.{callable_at, callables}
-use Rattle.bridge_report.specs.Limits.{leaf_reports, leaf_reports_of}
+use Rattle.bridge_leaves.specs.Limits.{has_too_many}
 use Rattle.bridge_report.specs.declared.report.CallableId.{CallableId}
 use Rattle.definition_graph.specs.Reaching.{IsGraph}
 use Rattle.definition_graph.specs.Surveying.{AreDepths}
@@ -26,7 +26,6 @@ use Rattle.hir_ids.specs.declared.ids.TypeId.TheVariants as type
 use Rattle.hir_life.specs.Substitution.{identity}
 use Rattle.hir_life.specs.declared.maybe_static.MaybeStatic.{MaybeStatic}
 use Rattle.hir_mentions.specs.Mentions.{where_any}
-use Rattle.hir_reports.specs.declared.report.LoweringReport.{LoweringReport}
 use Rattle.hir_skeleton.specs.Inputs.{fields_in, method_inputs, method_leaves}
 use Rattle.hir_skeleton.specs.Leaves.{deep_leaves, in_field, input_leaves, struct_leaves}
 use Rattle.hir_skeleton.specs.Lowered.{input_fields}
@@ -112,15 +111,16 @@ method_count defs m n is =
     is (identity m.lifetime_env.count)
     ∙ ap (min most_counted) (sym (fields_length in_field (input_leaves (fields_in defs) m.lifetime_env.count) 0 (method_inputs m)))
 
--- ---- reports
+-- ---- callables
 
 module _ (defs : Definitions) (ids : List CallableId) (all : map (callable_at defs) ids ≡ map Some (callables defs)) where
-  pub told_next : (n : ℕ) (id : CallableId) (start old new : List LoweringReport) → n < length ids → id ≡ get_or ids n id
-      → old ≡ start ++ leaf_reports (take n (callables defs)) → IfSome (callable_at defs id) (λ c. new ≡ old ++ leaf_reports_of c)
-      → new ≡ start ++ leaf_reports (take (n + 1) (callables defs))
-  told_next n id start old new within is so_far tells =
+  pub flagged_next : (n : ℕ) (id : CallableId) (flag : Bool) (start old new : List Bool) → n < length ids → id ≡ get_or ids n id
+      → old ≡ start ++ map has_too_many (take n (callables defs)) → IfSome (callable_at defs id) (λ c. flag ≡ has_too_many c) → new ≡ old ++ flag ∷ []
+      → new ≡ start ++ map has_too_many (take (n + 1) (callables defs))
+  flagged_next n id flag start old new within is so_far tells pushed =
       let w = listed_callable defs ids all n id (slice_get_read ids (length ids) n id refl within is) in
-      let more : new ≡ old ++ leaf_reports_of w.0 = subst (λ o. IfSome o (λ c. new ≡ old ++ leaf_reports_of c)) w.2 tells in
+      let right : flag ≡ has_too_many w.0 = subst (λ o. IfSome o (λ c. flag ≡ has_too_many c)) w.2 tells in
       let there = slice_get_within (callables defs) n w.0 w.1 in
-      more ∙ ap (λ r. r ++ leaf_reports_of w.0) so_far ∙ append_assoc start (leaf_reports (take n (callables defs))) (leaf_reports_of w.0)
-      ∙ ap (λ r. start ++ r) (joined_next leaf_reports_of (callables defs) n w.0 there (sym (get_or_from_slice_get (callables defs) n w.0 w.0 w.1)))
+      pushed ∙ ap (λ b. old ++ b ∷ []) right ∙ ap (λ r. r ++ has_too_many w.0 ∷ []) so_far
+      ∙ append_assoc start (map has_too_many (take n (callables defs))) (has_too_many w.0 ∷ [])
+      ∙ ap (λ r. start ++ r) (map_next has_too_many (callables defs) n w.0 there (sym (get_or_from_slice_get (callables defs) n w.0 w.0 w.1)))

@@ -1,7 +1,6 @@
 -- Rows of a graph that are filled one after another, and sums that grow.
 use Rattle.std.proofs.Common.{◌≡◌, ◌<◌, ◌+◌, ℕ, List, [], ◌∷◌, ◌++◌, length, get_or, take, map, cond, refl, ap, sym, ◌∙◌, arith, append_assoc}
 use Rattle.std.specs.List.{sum_by}
-use Rattle.std.specs.List.{flat_map}
 use Rattle.std.proofs.lemmas.List.Sums.{sum_by-append, sum_by-cons}
 use Rattle.std.proofs.lemmas.List.{length-map, length-take-le, map-append, take_more, flat_map_more}
 use Rattle.bridge_leaves.specs.inside.Counting.{graph_of, leaves_here, own_leaves, struct_here, structs_among}
@@ -22,12 +21,6 @@ pub map_next : {A B : Type 0} (f : A → B) (xs : List A) (i : ℕ) (x : A) → 
     → map f (take i xs) ++ f x ∷ [] ≡ map f (take (i + 1) xs)
 map_next f xs i x within is =
     sym (map-append f (take i xs) (x ∷ [])) ∙ ap (λ y. map f (take i xs ++ y ∷ [])) is ∙ ap (map f) (sym (take_more xs i x within))
-
--- one more of lists that are joined
-pub joined_next : {A B : Type 0} (f : A → List B) (xs : List A) (i : ℕ) (x : A) → i < length xs → x ≡ get_or xs i x
-    → flat_map f (take i xs) ++ f x ≡ flat_map f (take (i + 1) xs)
-joined_next f xs i x within is =
-    flat_map_more f [] (take i xs) x ∙ ap (λ y. flat_map f (take i xs ++ y ∷ [])) is ∙ sym (ap (flat_map f) (take_more xs i x within))
 
 -- the leaves of one field more
 pub own_next : {A K : Type 0} (f : A → Skeleton K) (xs : List A) (i : ℕ) (x : A) → i < length xs → x ≡ get_or xs i x

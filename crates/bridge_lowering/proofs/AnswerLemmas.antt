@@ -9,9 +9,10 @@ use Rattle.bridge_places.specs.Entries.{IsCatalog}
 use Rattle.bridge_report.specs.Borrowings.{AreReported}
 use Rattle.bridge_report.specs.Callables.{Callable}
 use Rattle.bridge_report.specs.InContext.{callables}
-use Rattle.bridge_report.specs.Limits.{LeavesBreak, leaf_reports}
 use Rattle.bridge_report.specs.declared.report.BridgeReport.{BridgeReport}
-use Rattle.bridge_telling.specs.Telling.{TellsPlaces}
+use Rattle.bridge_telling.specs.Telling.{TellsExactly, TellsPlaces}
+use Rattle.bridge_validation.specs.CallablesBreak.{CallablesBreak}
+use Rattle.bridge_validation.specs.Told.{callable_reports}
 use Rattle.hir_backends.specs.Backend.{Backend}
 use Rattle.hir_config.specs.declared.config.LoweringConfig.{LoweringConfig}
 use Rattle.hir_context.specs.declared.context.TypeContext.{TypeContext}
@@ -29,7 +30,6 @@ use Rattle.hir_rules.specs.Broken.{IsBroken}
 use Rattle.bridge_lowering.specs.Answers.{AnswersReport, AreAcceptedWith, AreBorrowed, AreRefusedWith}
 use Rattle.bridge_lowering.specs.Broken.{Break, BreakNothing, BreaksRule, HoldsOf}
 use Rattle.bridge_lowering.specs.inside.Borrowing.{BorrowsIn, IsReportIn}
-use Rattle.bridge_lowering.proofs.LeafLemmas.{breaks_told, told_breaks}
 
 -- modules have one catalog
 abbrev pub OneCatalog : Type 0
@@ -39,6 +39,10 @@ OneCatalog = (modules : List Module) (one other : Catalog) → IsCatalog modules
 abbrev pub ReadAlike : Type 0
 ReadAlike = (it : Interface) (defs : Definitions) → IsCatalog it.modules it.catalog → StandForItems it defs → callables defs ≡ declared_callables it
 
+-- what is told of callables is what breaks a rule
+abbrev pub ToldByRules : Type 0
+ToldByRules = (cs : List Callable) → TellsExactly (callable_reports cs) (CallablesBreak cs)
+
 first_stands : {A : Type 0} (xs : List A) → xs ≢ [] → (x : A) × Contains xs x
 first_stands [] some = absurd (some refl)
 first_stands (x ∷ xs) some = (x, (0, omega (arith), refl))
@@ -46,7 +50,7 @@ first_stands (x ∷ xs) some = (x, (0, omega (arith), refl))
 none_stands : {A : Type 0} (xs : List A) (x : A) → xs ≡ [] → ¬ (Contains xs x)
 none_stands xs x e h = let k : Contains [] x = subst (λ ys. Contains ys x) e h in omega (arith, k.1)
 
-module _ (one_catalog : OneCatalog) (modules : List Module) (backend : Backend) (config : LoweringConfig) (catalog : Catalog)
+module _ (one_catalog : OneCatalog) (by_rules : ToldByRules) (modules : List Module) (backend : Backend) (config : LoweringConfig) (catalog : Catalog)
     (is : IsCatalog modules catalog) where
   -- the declarations by this catalog
   abbrev it : Interface
@@ -65,10 +69,10 @@ module _ (one_catalog : OneCatalog) (modules : List Module) (backend : Backend) 
   breaks_here r b = record { catalog = catalog; is = is; holds = b }
 
   -- nothing is
-  no_rule : ((r : LoweringReport) → ¬ (IsBroken it r)) → leaf_reports (declared_callables it) ≡ [] → BreakNothing modules backend config
-  no_rule unbroken few r b = elim (broken_here r b) [
+  no_rule : ((r : LoweringReport) → ¬ (IsBroken it r)) → callable_reports (declared_callables it) ≡ [] → BreakNothing modules backend config
+  no_rule unbroken quiet r b = elim (broken_here r b) [
     | inl l ↦ unbroken r l
-    | inr m ↦ none_stands (leaf_reports (declared_callables it)) r few (breaks_told (declared_callables it) r m.1)
+    | inr m ↦ none_stands (callable_reports (declared_callables it)) r quiet ((by_rules (declared_callables it) r).1 m.1)
   ]
 
   -- what is told while declarations are lowered
@@ -85,16 +89,16 @@ module _ (one_catalog : OneCatalog) (modules : List Module) (backend : Backend) 
     ordered = record { catalog = catalog; is = is; holds = inl t.ordered };
   }
 
-  -- what is told of leaves
-  refused_leaves : (told : List LoweringReport) → ((r : LoweringReport) → ¬ (IsBroken it r)) → told ≡ leaf_reports (declared_callables it) → told ≢ []
+  -- what is told of callables
+  refused_callables : (told : List LoweringReport) → ((r : LoweringReport) → ¬ (IsBroken it r)) → told ≡ callable_reports (declared_callables it) → told ≢ []
       → AreRefusedWith modules backend config told
-  refused_leaves told unbroken e some = record {
+  refused_callables told unbroken e some = record {
     some = some;
     broken = record {
-      each = λ r h. breaks_here r (inr (unbroken, told_breaks (declared_callables it) r (subst (λ rs. Contains rs r) e h)));
+      each = λ r h. breaks_here r (inr (unbroken, (by_rules (declared_callables it) r).0 (subst (λ rs. Contains rs r) e h)));
       every = λ r b. elim (broken_here r b) [
         | inl l ↦ absurd (unbroken r l)
-        | inr m ↦ (r, (subst (λ rs. Contains rs r) (sym e) (breaks_told (declared_callables it) r m.1), refl))
+        | inr m ↦ (r, (subst (λ rs. Contains rs r) (sym e) ((by_rules (declared_callables it) r).1 m.1), refl))
       ];
     };
     ordered = record { catalog = catalog; is = is; holds = inr e };
@@ -106,7 +110,7 @@ module _ (one_catalog : OneCatalog) (modules : List Module) (backend : Backend) 
 
     pub answered_in : (result : Result BridgeReport LowerFault) → BorrowsIn defs result → AnswersReport modules backend config result
     answered_in (Ok report) b = record {
-      unbroken = no_rule stood.unbroken (sym (ap leaf_reports same) ∙ b.few);
+      unbroken = no_rule stood.unbroken (sym (ap callable_reports same) ∙ b.unbroken);
       borrowed = record {
         catalog = catalog;
         is = is;
@@ -117,17 +121,17 @@ module _ (one_catalog : OneCatalog) (modules : List Module) (backend : Backend) 
         };
       };
     }
-    answered_in (Err (fault.Refused told)) b = refused_leaves told.items stood.unbroken (b.0 ∙ ap leaf_reports same) b.1
+    answered_in (Err (fault.Refused told)) b = refused_callables told.items stood.unbroken (b.0 ∙ ap callable_reports same) b.1
     answered_in (Err fault.NoMemory) b = tt
 
 -- declarations in which a rule is broken while they are lowered
-pub refused_with : OneCatalog → (modules : List Module) (backend : Backend) (config : LoweringConfig) (f : LowerFault)
+pub refused_with : OneCatalog → ToldByRules → (modules : List Module) (backend : Backend) (config : LoweringConfig) (f : LowerFault)
     → AnswersDeclarations modules backend config (Err f) → AnswersReport modules backend config (Err f)
-refused_with one modules backend config (fault.Refused told) h = refused_lowering one modules backend config h.catalog h.is told.items h.holds
-refused_with one modules backend config fault.NoMemory h = tt
+refused_with one rules modules backend config (fault.Refused told) h = refused_lowering one rules modules backend config h.catalog h.is told.items h.holds
+refused_with one rules modules backend config fault.NoMemory h = tt
 
 -- and those that have a context
-pub answered_with : OneCatalog → ReadAlike → (modules : List Module) (backend : Backend) (config : LoweringConfig) (tcx : TypeContext)
+pub answered_with : OneCatalog → ToldByRules → ReadAlike → (modules : List Module) (backend : Backend) (config : LoweringConfig) (tcx : TypeContext)
     → AnswersDeclarations modules backend config (Ok tcx) → (result : Result BridgeReport LowerFault) → BorrowsIn tcx.definitions result
     → AnswersReport modules backend config result
-answered_with one alike modules backend config tcx h result b = answered_in one modules backend config h.catalog h.is alike tcx.definitions h.holds result b
+answered_with one rules alike modules backend config tcx h result b = answered_in one rules modules backend config h.catalog h.is alike tcx.definitions h.holds result b

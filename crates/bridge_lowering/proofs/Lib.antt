@@ -1,2 +1,1 @@
-pub mod LeafLemmas
 pub mod AnswerLemmas

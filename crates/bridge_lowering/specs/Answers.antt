@@ -5,10 +5,10 @@ use Rattle.bridge_callables.specs.Declared.{declared_callables}
 use Rattle.bridge_decl.specs.declared.modules.Module.{Module}
 use Rattle.bridge_report.specs.Borrowings.{AreReported}
 use Rattle.bridge_report.specs.InContext.{callables}
-use Rattle.bridge_report.specs.Limits.{leaf_reports}
 use Rattle.bridge_report.specs.Page.{IsPage}
 use Rattle.bridge_report.specs.declared.report.BridgeReport.{BridgeReport}
 use Rattle.bridge_telling.specs.Telling.{TellsPlaces}
+use Rattle.bridge_validation.specs.Told.{callable_reports}
 use Rattle.hir_backends.specs.Backend.{Backend}
 use Rattle.hir_config.specs.declared.config.LoweringConfig.{LoweringConfig}
 use Rattle.hir_lower.specs.Contexts.{StandForItems}
@@ -28,7 +28,7 @@ pub record AreBorrowed (it : Interface) (report : BridgeReport) : Type 0 where
 
 -- they come in order: those of modules and then those of items, kind by kind; or those of callables
 abbrev pub AreInOrder : Interface → List LoweringReport → Type 0
-AreInOrder it told = IsRefusal it told ⊎ (told ≡ leaf_reports (declared_callables it))
+AreInOrder it told = IsRefusal it told ⊎ (told ≡ callable_reports (declared_callables it))
 
 -- what is told of declarations that break a rule: each report tells one that is broken, at its place; and each place at which one is has a
 -- report

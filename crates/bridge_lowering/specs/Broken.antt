@@ -1,9 +1,9 @@
 -- What is broken in declarations, in all phases: while they are lowered and in how their structs nest (`IsBroken` of `hir_rules`); and, where
--- nothing is, in how many leaves their callables have.
+-- nothing is, by their callables (`CallablesBreak` of `bridge_validation`).
 use Rattle.std.specs.Prelude.{◌⊎◌, List}
 use Rattle.bridge_callables.specs.Declared.{declared_callables}
 use Rattle.bridge_decl.specs.declared.modules.Module.{Module}
-use Rattle.bridge_report.specs.Limits.{LeavesBreak}
+use Rattle.bridge_validation.specs.CallablesBreak.{CallablesBreak}
 use Rattle.hir_backends.specs.Backend.{Backend}
 use Rattle.hir_config.specs.declared.config.LoweringConfig.{LoweringConfig}
 use Rattle.hir_lower.specs.Acceptance.{HoldsByCatalog}
@@ -14,7 +14,7 @@ use Rattle.hir_rules.specs.Broken.{IsBroken}
 
 -- a rule is broken there, with these arguments
 abbrev pub BreaksRule : Interface → LoweringReport → Type 0
-BreaksRule it report = IsBroken it report ⊎ (((r : LoweringReport) → ¬ (IsBroken it r)) × LeavesBreak (declared_callables it) report)
+BreaksRule it report = IsBroken it report ⊎ (((r : LoweringReport) → ¬ (IsBroken it r)) × CallablesBreak (declared_callables it) report)
 
 -- something holds of declarations, for a backend and by what is allowed, where paths mean what they name, and each item is what the
 -- catalog of the modules says: they have one

@@ -4,14 +4,14 @@ ghost use Rattle.std.specs.Prelude.{◌≡◌, []};
 ghost use Rattle.bridge_lowering.specs.Answers.{AnswersReport};
 ghost use Rattle.bridge_lowering.specs.inside.Borrowing.{BorrowsIn};
 ghost use Rattle.bridge_report.specs.InContext.{callables};
-ghost use Rattle.bridge_report.specs.Limits.{leaf_reports};
+ghost use Rattle.bridge_validation.specs.Told.{callable_reports};
 
 use bridge_ast::Env;
 use bridge_borrow::borrowings;
 use bridge_callables::callables_are_read_as_declared;
 use bridge_catalogs::modules_have_one_catalog;
-use bridge_leaves::leaf_reports;
 use bridge_report::BridgeReport;
+use bridge_validation::{callable_reports, callables_are_told_by_their_rules};
 use hir_backends::AttributeValidator;
 use hir_config::LoweringConfig;
 use hir_context::TypeContext;
@@ -20,7 +20,7 @@ use std::alloc::Global;
 
 /// What the results of the callables of a context may borrow.
 fn report_of(alloc: Global, tcx: TypeContext) -> Result<BridgeReport, LowerFault>
-    requires { leaf_reports (callables tcx.definitions) ≡ [] }
+    requires { callable_reports (callables tcx.definitions) ≡ [] }
     ensures { BorrowsIn tcx.definitions result }
 {
     match borrowings(alloc, &tcx) {
@@ -29,11 +29,11 @@ fn report_of(alloc: Global, tcx: TypeContext) -> Result<BridgeReport, LowerFault
     }
 }
 
-/// The same, where none has too many leaves; else those that have are told.
+/// The same, where none breaks a rule; else those that do are told.
 fn borrow_in(alloc: Global, tcx: TypeContext) -> Result<BridgeReport, LowerFault>
     ensures { BorrowsIn tcx.definitions result }
 {
-    match leaf_reports(alloc, &tcx) {
+    match callable_reports(alloc, &tcx) {
         Ok(told) => {
             if told.is_empty() {
                 report_of(alloc, tcx)
@@ -58,6 +58,7 @@ pub fn lower_and_borrow<V: AttributeValidator>(
 {
     callables_are_read_as_declared();
     modules_have_one_catalog();
+    callables_are_told_by_their_rules();
     match TypeContext::from_env(alloc, env, config, validator) {
         Ok(tcx) => borrow_in(alloc, tcx),
         Err(fault) => Err(fault),

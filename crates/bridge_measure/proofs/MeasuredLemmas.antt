@@ -22,7 +22,7 @@ use Rattle.bridge_measure.specs.Measured.{measured, measured_backend, measured_b
 use Rattle.bridge_measure.specs.inside.Made.{AreAsMade}
 use Rattle.bridge_measure.proofs.BrokenLemmas.{nothing_broken}
 use Rattle.bridge_measure.proofs.CallableLemmas.{callables_are, made_callable}
-use Rattle.bridge_measure.proofs.LeafLemmas.{leaves_stand}
+use Rattle.bridge_measure.proofs.LeafLemmas.{callables_stand}
 use Rattle.bridge_measure.proofs.ListedLemmas.{few_listed, listed_is}
 use Rattle.bridge_measure.proofs.NestingLemmas.{nesting_stands}
 use Rattle.bridge_measure.proofs.PlaceLemmas.{found_is, function_found, meets, struct_found}
@@ -67,8 +67,8 @@ breaks_nothing every count backend config fits free report broken =
       | inl (inl lowering) ↦
           nothing_broken it (nothing_reported count fits it refl here free (found_is count)) (λ r b. every it r broken.is b) report lowering
       | inl (inr nesting) ↦ nesting_stands count backend config (naming_of (measured count)) catalog here (found_is count) report nesting.1
-      | inr leaves ↦
-          leaves_stand count backend config (naming_of (measured count)) catalog here (struct_found count) (found_is count) (function_found count) report leaves.1
+      | inr callables ↦
+          callables_stand count backend config (naming_of (measured count)) catalog here (struct_found count) (found_is count) (function_found count) report callables.1
     ]
 
 -- what is refused breaks a rule

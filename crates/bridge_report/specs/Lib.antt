@@ -3,5 +3,4 @@ pub mod InContext
 pub mod Places
 pub mod Borrowings
 pub mod Page
-pub mod Limits
 pub mod inside

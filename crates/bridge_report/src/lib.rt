@@ -52,8 +52,8 @@
 //! ok 1
 //! ```
 //!
-//! A list is printed whole, so a callable may have 2^20 leaves at most; of each that has more it is
-//! told that it has too many (`specs/Limits`).
+//! A list is printed whole, so a callable may have 2^20 leaves at most: `bridge_leaves` finds those
+//! that have more.
 #![tactic(auto)]
 
 mod callables;

@@ -5,7 +5,7 @@ use super::program::runs_to;
 use std::alloc::{AllocError, Global};
 
 /// Root modules that break no rule, with their pages.
-const ACCEPTED: [(&str, &str); 14] = [
+const ACCEPTED: [(&str, &str); 16] = [
     // fn f<'a, 'b: 'a>(x: &'a O, y: &'b O) -> &'a O
     (
         r#"{"items":[{"kind":"opaque","name":"O"},{"kind":"function","name":"f","lifetimes":[{"name":"a","longer":[1]},{"name":"b","shorter":[0]}],"params":[{"name":"x","ty":{"ref":{"lifetime":"a","to":{"named":{"segments":["O"]}}}}},{"name":"y","ty":{"ref":{"lifetime":"b","to":{"named":{"segments":["O"]}}}}}],"ret":{"ref":{"lifetime":"a","to":{"named":{"segments":["O"]}}}}}]}"#,
@@ -77,10 +77,20 @@ const ACCEPTED: [(&str, &str); 14] = [
         r#"{"items":[{"kind":"struct","name":"A","fields":[{"name":"b","ty":{"diplomat_option":{"named":{"segments":["A"]}}}}],"attrs":{"marks":[{"if":"*","mark":["disable"]}]}}]}"#,
         "ok 0\n",
     ),
+    // O::m() -> &'static O: 'static is no lifetime that is left out.
+    (
+        r#"{"items":[{"kind":"opaque","name":"O","methods":[{"name":"m","self_type":{"segments":["O"]},"ret":{"ref":{"lifetime":"static","to":{"named":{"segments":["O"]}}}}}]}]}"#,
+        "callable O::m\nok 1\n",
+    ),
+    // #[attr(*, disable)] O::m(x: &O) -> &O
+    (
+        r#"{"items":[{"kind":"opaque","name":"O","methods":[{"name":"m","self_type":{"segments":["O"]},"params":[{"name":"x","ty":{"ref":{"lifetime":"_","to":{"named":{"segments":["O"]}}}}}],"ret":{"ref":{"lifetime":"_","to":{"named":{"segments":["O"]}}}},"attrs":{"marks":[{"if":"*","mark":["disable"]}]}}]}]}"#,
+        "ok 0\n",
+    ),
 ];
 
 /// Root modules that break one, with the flags of the backend and the reports.
-const REFUSED: [(&str, &str, &str); 16] = [
+const REFUSED: [(&str, &str, &str); 23] = [
     // fn f<'a>(x: &'a O, y: &'a O) -> &O
     (
         r#"{"items":[{"kind":"opaque","name":"O"},{"kind":"function","name":"f","lifetimes":[{"name":"a"}],"params":[{"name":"x","ty":{"ref":{"lifetime":"a","to":{"named":{"segments":["O"]}}}}},{"name":"y","ty":{"ref":{"lifetime":"a","to":{"named":{"segments":["O"]}}}}}],"ret":{"ref":{"lifetime":"_","to":{"named":{"segments":["O"]}}}}}]}"#,
@@ -176,6 +186,48 @@ const REFUSED: [(&str, &str, &str); 16] = [
         r#"{"items":[{"kind":"opaque","name":"O","methods":[{"name":"t","self_type":{"segments":["O"]},"params":[{"name":"a","ty":"u8","attrs":{"marks":[{"if":"*","mark":["default_value"],"value":{"int":"1"}}]}},{"name":"b","ty":"u8"}]}]}]}"#,
         USUAL,
         "Lowering error in O::t\n  RequiredAfterDefault: Found required arg b after default arguments.\nrefused 1\n",
+    ),
+    // O::new() -> Box<O> and O::make() -> Box<O>, both marked as constructors, without method_overloading
+    (
+        r#"{"items":[{"kind":"opaque","name":"O","methods":[{"name":"new","self_type":{"segments":["O"]},"ret":{"box":{"named":{"segments":["O"]}}},"attrs":{"marks":[{"if":"*","mark":["constructor"]}]}},{"name":"make","self_type":{"segments":["O"]},"ret":{"box":{"named":{"segments":["O"]}}},"attrs":{"marks":[{"if":"*","mark":["constructor"]}]}}]}]}"#,
+        USUAL,
+        "Lowering error in O::make\n  SpecialRepeated: constructor stands twice on one type\nrefused 1\n",
+    ),
+    // struct S { x: u8 }, #[attr(*, iterator)] S::next(self) -> Option<u8>
+    (
+        r#"{"items":[{"kind":"struct","name":"S","fields":[{"name":"x","ty":"u8"}],"methods":[{"name":"next","self_type":{"segments":["S"]},"self":{"path":{"segments":["S"]}},"ret":{"option":"u8"},"attrs":{"marks":[{"if":"*","mark":["iterator"]}]}}]}]}"#,
+        USUAL,
+        "Lowering error in S::next\n  SpecialReceiver: iterator has a wrong receiver\nrefused 1\n",
+    ),
+    // #[attr(*, comparison)] O::cmp(&self, other: &O) -> Option<Ordering>, without partial_comparators
+    (
+        r#"{"items":[{"kind":"opaque","name":"O","methods":[{"name":"cmp","self_type":{"segments":["O"]},"self":{"reference":{"lifetime":"_"},"path":{"segments":["O"]}},"params":[{"name":"other","ty":{"ref":{"lifetime":"_","to":{"named":{"segments":["O"]}}}}}],"ret":{"option":"ordering"},"attrs":{"marks":[{"if":"*","mark":["comparison"]}]}}]}]}"#,
+        USUAL,
+        "Lowering error in O::cmp\n  SpecialSupport: comparison needs partial_comparators\nrefused 1\n",
+    ),
+    // O::first(s: &DiplomatStr) -> &DiplomatStr
+    (
+        r#"{"items":[{"kind":"opaque","name":"O","methods":[{"name":"first","self_type":{"segments":["O"]},"params":[{"name":"s","ty":{"str":{"lifetime":"_","encoding":"unvalidated_utf8"}}}],"ret":{"str":{"lifetime":"_","encoding":"unvalidated_utf8"}}}]}]}"#,
+        USUAL,
+        "Lowering error in O::first\n  ElidedReturn: Found elided lifetime in return type, please explicitly specify\nrefused 1\n",
+    ),
+    // opaque Foo<'a>, Foo<'a>::get(x: &Self) -> &O
+    (
+        r#"{"items":[{"kind":"opaque","name":"O"},{"kind":"opaque","name":"Foo","lifetimes":[{"name":"a"}],"methods":[{"name":"get","self_type":{"segments":["Foo"],"lifetimes":["a"]},"lifetimes":[{"name":"a"}],"params":[{"name":"x","ty":{"ref":{"lifetime":"_","to":{"self":{"segments":["Foo"],"lifetimes":["a"]}}}}}],"ret":{"ref":{"lifetime":"_","to":{"named":{"segments":["O"]}}}}}]}]}"#,
+        USUAL,
+        "Lowering error in Foo::get\n  ElidedReturn: Found elided lifetime in return type, please explicitly specify\nrefused 1\n",
+    ),
+    // O::m(&self) -> Result<(), &O>
+    (
+        r#"{"items":[{"kind":"opaque","name":"O","methods":[{"name":"m","self_type":{"segments":["O"]},"self":{"reference":{"lifetime":"_"},"path":{"segments":["O"]}},"ret":{"result":{"ok":"unit","err":{"ref":{"lifetime":"_","to":{"named":{"segments":["O"]}}}}}}}]}]}"#,
+        USUAL,
+        "Lowering error in O::m\n  ElidedReturn: Found elided lifetime in return type, please explicitly specify\nrefused 1\n",
+    ),
+    // O::m(&self) -> &O, struct S { x: u8 }, S::n(x: &O) -> &O: structs come before opaques.
+    (
+        r#"{"items":[{"kind":"opaque","name":"O","methods":[{"name":"m","self_type":{"segments":["O"]},"self":{"reference":{"lifetime":"_"},"path":{"segments":["O"]}},"ret":{"ref":{"lifetime":"_","to":{"named":{"segments":["O"]}}}}}]},{"kind":"struct","name":"S","fields":[{"name":"x","ty":"u8"}],"methods":[{"name":"n","self_type":{"segments":["S"]},"params":[{"name":"x","ty":{"ref":{"lifetime":"_","to":{"named":{"segments":["O"]}}}}}],"ret":{"ref":{"lifetime":"_","to":{"named":{"segments":["O"]}}}}}]}]}"#,
+        USUAL,
+        "Lowering error in S::n\n  ElidedReturn: Found elided lifetime in return type, please explicitly specify\nLowering error in O::m\n  ElidedReturn: Found elided lifetime in return type, please explicitly specify\nrefused 2\n",
     ),
 ];
 

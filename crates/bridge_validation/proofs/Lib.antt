@@ -1,0 +1,2 @@
+pub mod CallableLemmas
+pub mod WalkLemmas

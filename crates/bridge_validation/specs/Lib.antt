@@ -1,0 +1,3 @@
+pub mod rules
+pub mod CallablesBreak
+pub mod Told

@@ -1,0 +1,43 @@
+-- What is told of callables.
+use Rattle.std.specs.Prelude.{ℕ, List, [], ◌∷◌, ◌++◌, length, map, Bool, true, false, not, ◌&&◌, nat_lt, if◌then◌else◌}
+use Rattle.std.specs.List.{flat_map, list_any}
+use Rattle.bridge_leaves.specs.Limits.{has_too_many}
+use Rattle.bridge_report.specs.Callables.{Callable}
+use Rattle.bridge_report.specs.declared.report.CallableId.{CallableId}
+use Rattle.bridge_report.specs.declared.report.CallableId.TheVariants as callable
+use Rattle.hir_life.specs.Environment.{Environment}
+use Rattle.hir_life.specs.declared.maybe_static.MaybeStatic.{MaybeStatic}
+use Rattle.hir_life.specs.declared.maybe_static.MaybeStatic.TheVariants.{NonStatic, Static}
+use Rattle.hir_reports.specs.Store.{told_at}
+use Rattle.hir_reports.specs.Texts.{plain_error}
+use Rattle.hir_reports.specs.declared.report.LoweringError.{LoweringError}
+use Rattle.hir_reports.specs.declared.report.LoweringReport.{LoweringReport}
+use Rattle.hir_reports.specs.declared.rule.Rule.TheVariants as rule
+
+-- a method of a type
+abbrev pub is_type_method : CallableId → Bool
+is_type_method (callable.Method type number) = true
+is_type_method (callable.Function number) = false
+
+-- the lifetime has no name
+abbrev pub is_unnamed : Environment → MaybeStatic ℕ → Bool
+is_unnamed env Static = false
+is_unnamed env (NonStatic l) = not (nat_lt l (length env.bounds))
+
+-- a method that returns one
+abbrev pub elides : Callable → Bool
+elides c = is_type_method c.id && list_any (is_unnamed c.environment) c.named
+
+abbrev pub one_if : Bool → LoweringError → List LoweringError
+one_if broken error = if broken then error ∷ [] else []
+
+-- what is told of a callable, at its place
+abbrev pub validation_errors : Callable → List LoweringError
+validation_errors c = one_if (has_too_many c) (plain_error rule.TooManyLeaves) ++ one_if (elides c) (plain_error rule.ElidedReturn)
+
+abbrev pub callable_reports_of : Callable → List LoweringReport
+callable_reports_of c = map (told_at c.place) (validation_errors c)
+
+-- of each, in order
+abbrev pub callable_reports : List Callable → List LoweringReport
+callable_reports callables = flat_map callable_reports_of callables

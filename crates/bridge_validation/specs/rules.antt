@@ -1,0 +1,2 @@
+pub mod TooManyLeaves
+pub mod ElidedReturn
