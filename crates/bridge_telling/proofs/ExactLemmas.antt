@@ -2,7 +2,7 @@
 use Rattle.std.proofs.Common.{◌≡◌, ◌⊎◌, ◌↔◌, inl, inr, List, [], ◌∷◌, ◌++◌, Bool, true, false, Option, Some, None, if◌then◌else◌, option_to_list, refl, sym, subst, arith}
 use Rattle.std.specs.List.{Contains, flat_map}
 use Rattle.std.proofs.lemmas.List.Elements.{Contains-append_left, Contains-append_right, Contains-append_cases, Contains-push, Contains-push_cases}
-use Rattle.bridge_telling.specs.Telling.{TellsExactly}
+use Rattle.bridge_telling.specs.Telling.{TellsExactly, one_if}
 
 -- nothing is in the empty list
 pub in_none : {E : Type 0} (e : E) → ¬ Contains [] e
@@ -62,6 +62,10 @@ exactly_unless false xs P p e = (λ h. (refl, (p e).0 h), λ h. (p e).1 h.1)
 pub exactly_where : {E : Type 0} (b : Bool) (xs : List E) (P : E → Type 0) → TellsExactly xs P → TellsExactly (if b then xs else []) (λ e. (b ≡ true) × P e)
 exactly_where true xs P p e = (λ h. (refl, (p e).0 h), λ h. (p e).1 h.1)
 exactly_where false xs P p e = (λ h. absurd (in_none e h), λ h. cc)
+
+-- one thing, where a test passes
+pub exactly_if : {E : Type 0} (b : Bool) (x : E) → TellsExactly (one_if b x) (λ e. (b ≡ true) × (e ≡ x))
+exactly_if b x = exactly_where b (x ∷ []) (λ e. e ≡ x) (exactly_one x)
 
 -- what there is, if there is one
 pub exactly_optional : {E : Type 0} (x : Option E) → TellsExactly (option_to_list x) (λ e. x ≡ Some e)

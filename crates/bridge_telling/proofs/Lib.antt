@@ -1,3 +1,4 @@
 pub mod ExactLemmas
 pub mod GivenLemmas
 pub mod PlaceLemmas
+pub mod TestLemmas

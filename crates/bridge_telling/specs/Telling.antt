@@ -1,6 +1,10 @@
 -- What a list tells of things of which something may be said: of errors, that a rule is broken.
-use Rattle.std.specs.Prelude.{◌≡◌, ◌↔◌, List}
+use Rattle.std.specs.Prelude.{◌≡◌, ◌↔◌, List, [], ◌∷◌, Bool, if◌then◌else◌}
 use Rattle.std.specs.List.{Contains}
+
+-- one, where a test passes
+abbrev pub one_if : {E : Type 0} → Bool → E → List E
+one_if passes e = if passes then e ∷ [] else []
 
 -- the list has all of which it is said, and nothing else
 abbrev pub TellsExactly : {E : Type 0} → List E → (E → Type 0) → Type 0

@@ -7,9 +7,10 @@ use Rattle.bridge_leaves.specs.Limits.{has_too_many, most_leaves}
 use Rattle.bridge_report.specs.Callables.{Callable}
 use Rattle.bridge_report.specs.declared.report.CallableId.{CallableId}
 use Rattle.bridge_report.specs.declared.report.CallableId.TheVariants as callable
-use Rattle.bridge_telling.specs.Telling.{TellsExactly}
-use Rattle.bridge_telling.proofs.ExactLemmas.{exactly_as, exactly_both, exactly_each, exactly_one, exactly_where, in_cases, in_first, in_none, in_rest}
+use Rattle.bridge_telling.specs.Telling.{TellsExactly, one_if}
+use Rattle.bridge_telling.proofs.ExactLemmas.{exactly_as, exactly_both, exactly_each, exactly_if}
 use Rattle.bridge_telling.proofs.GivenLemmas.{in_map, mapped}
+use Rattle.bridge_telling.proofs.TestLemmas.{and_parts, parts_and, passes_some, some_passes}
 use Rattle.hir_life.specs.Environment.{Environment}
 use Rattle.hir_life.specs.declared.maybe_static.MaybeStatic.{MaybeStatic}
 use Rattle.hir_life.specs.declared.maybe_static.MaybeStatic.TheVariants.{NonStatic, Static}
@@ -19,46 +20,8 @@ use Rattle.hir_reports.specs.declared.report.LoweringError.{LoweringError}
 use Rattle.hir_reports.specs.declared.report.LoweringReport.{LoweringReport}
 use Rattle.hir_reports.specs.declared.rule.Rule.TheVariants as rule
 use Rattle.bridge_validation.specs.CallablesBreak.{CallableBreaks, CallablesBreak}
-use Rattle.bridge_validation.specs.Told.{validation_errors, callable_reports, callable_reports_of, elides, is_type_method, is_unnamed, one_if}
+use Rattle.bridge_validation.specs.Told.{validation_errors, callable_reports, callable_reports_of, elides, is_type_method, is_unnamed}
 use Rattle.bridge_validation.specs.rules.ElidedReturn.{ElidedReturn}
-
--- ---- tests
-
-and_parts : (a b : Bool) → a && b ≡ true → (a ≡ true) × (b ≡ true)
-and_parts true true h = (refl, refl)
-and_parts true false h = cc
-and_parts false b h = cc
-
-parts_and : (a b : Bool) → a ≡ true → b ≡ true → a && b ≡ true
-parts_and true true h i = refl
-parts_and true false h i = cc
-parts_and false b h i = cc
-
-or_cases : (a b : Bool) → a || b ≡ true → (a ≡ true) ⊎ (b ≡ true)
-or_cases true b h = inl refl
-or_cases false b h = inr h
-
-or_first : (a b : Bool) → a ≡ true → a || b ≡ true
-or_first true b h = refl
-or_first false b h = cc
-
-or_second : (a b : Bool) → b ≡ true → a || b ≡ true
-or_second true b h = refl
-or_second false b h = h
-
-some_passes : {A : Type 0} (test : A → Bool) (xs : List A) → list_any test xs ≡ true → (x : A) × (Contains xs x × (test x ≡ true))
-some_passes test [] h = cc
-some_passes test (x ∷ xs) h = elim (or_cases (test x) (list_any test xs) h) [
-  | inl here ↦ (x, (in_first x xs, here))
-  | inr later ↦ let more = some_passes test xs later in (more.0, (in_rest x xs more.0 more.1.0, more.1.1))
-]
-
-passes_some : {A : Type 0} (test : A → Bool) (xs : List A) (x : A) → Contains xs x → test x ≡ true → list_any test xs ≡ true
-passes_some test [] x c h = absurd (in_none x c)
-passes_some test (y ∷ ys) x c h = elim (in_cases y ys x c) [
-  | inl is ↦ or_first (test y) (list_any test ys) (ap test (sym is) ∙ h)
-  | inr later ↦ or_second (test y) (list_any test ys) (passes_some test ys x later h)
-]
 
 -- ---- lifetimes without a name
 
@@ -109,9 +72,6 @@ of_elided c b =
 
 -- ---- of a callable, and of all
 
-if_exactly : (b : Bool) (error : LoweringError) → TellsExactly (one_if b error) (λ e. (b ≡ true) × (e ≡ error))
-if_exactly b error = exactly_where b (error ∷ []) (λ e. e ≡ error) (exactly_one error)
-
 module _ (c : Callable) where
   abbrev Told : LoweringError → Type 0
   Told e = ((has_too_many c ≡ true) × (e ≡ plain_error rule.TooManyLeaves)) ⊎ ((elides c ≡ true) × (e ≡ plain_error rule.ElidedReturn))
@@ -131,7 +91,7 @@ module _ (c : Callable) where
       exactly_as (validation_errors c) Told (CallableBreaks c) (λ e. (λ h. breaks_of e h, λ b. told_of e b))
       (exactly_both (one_if (has_too_many c) (plain_error rule.TooManyLeaves)) (one_if (elides c) (plain_error rule.ElidedReturn))
       (λ e. (has_too_many c ≡ true) × (e ≡ plain_error rule.TooManyLeaves)) (λ e. (elides c ≡ true) × (e ≡ plain_error rule.ElidedReturn))
-      (if_exactly (has_too_many c) (plain_error rule.TooManyLeaves)) (if_exactly (elides c) (plain_error rule.ElidedReturn)))
+      (exactly_if (has_too_many c) (plain_error rule.TooManyLeaves)) (exactly_if (elides c) (plain_error rule.ElidedReturn)))
 
   abbrev Placed : LoweringReport → Type 0
   Placed r = (e : LoweringError) × (CallableBreaks c e × (r ≡ told_at c.place e))

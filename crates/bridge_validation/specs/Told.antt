@@ -5,6 +5,7 @@ use Rattle.bridge_leaves.specs.Limits.{has_too_many}
 use Rattle.bridge_report.specs.Callables.{Callable}
 use Rattle.bridge_report.specs.declared.report.CallableId.{CallableId}
 use Rattle.bridge_report.specs.declared.report.CallableId.TheVariants as callable
+use Rattle.bridge_telling.specs.Telling.{one_if}
 use Rattle.hir_life.specs.Environment.{Environment}
 use Rattle.hir_life.specs.declared.maybe_static.MaybeStatic.{MaybeStatic}
 use Rattle.hir_life.specs.declared.maybe_static.MaybeStatic.TheVariants.{NonStatic, Static}
@@ -27,9 +28,6 @@ is_unnamed env (NonStatic l) = not (nat_lt l (length env.bounds))
 -- a method that returns one
 abbrev pub elides : Callable → Bool
 elides c = is_type_method c.id && list_any (is_unnamed c.environment) c.named
-
-abbrev pub one_if : Bool → LoweringError → List LoweringError
-one_if broken error = if broken then error ∷ [] else []
 
 -- what is told of a callable, at its place
 abbrev pub validation_errors : Callable → List LoweringError

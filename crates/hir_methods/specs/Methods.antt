@@ -81,7 +81,7 @@ with_special support owner told form = told ++ made_errors support owner (unless
 -- ---- in all
 
 -- what is told of one of the type there: all else, and where that is nothing, what it breaks as a special method
-abbrev pub method_errors : Backend → BackendAttrSupport → LoweringConfig → Catalog → Naming → ItemPlace → Attrs → DeclaredMethod → List LoweringError
+unfoldable pub method_errors : Backend → BackendAttrSupport → LoweringConfig → Catalog → Naming → ItemPlace → Attrs → DeclaredMethod → List LoweringError
 method_errors backend support config catalog names owner parent method =
     with_special support (owner_id (entry_at catalog owner)) (plain_method_errors backend support config catalog names owner parent method)
     (method_form backend catalog names owner parent method)

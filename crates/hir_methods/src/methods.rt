@@ -163,6 +163,7 @@ fn lower_plain<V: AttributeValidator>(
 /// A method of the type there, which is told with all that is wrong in it, in order, and where nothing is,
 /// with what it breaks as a special method. Its marks start from those that are handed in. None exactly
 /// where it is disabled, of which the marks alone are read, or where something is told. `NoMemory` where there is no memory for it or for the reports.
+#[tactic(auto, unfolding(crate::specs::Methods::method_errors))]
 pub fn lower_method<V: AttributeValidator>(
     alloc: Global,
     env: &Env,

@@ -101,6 +101,7 @@ module _ (s : Setting) where
   )
 
   pub method_told : (owner : ItemPlace) (start : Attrs) (method : Method) → TellsGiven ⊤ (method_errors s.backend s.support s.config s.catalog s.names owner start method) (MethodBreaks s owner start method)
+  unfolding method_errors
   method_told owner start method =
       let plain = plain_method_errors s.backend s.support s.config s.catalog s.names owner start method in
       let form = method_form s.backend s.catalog s.names owner start method in

@@ -7,6 +7,7 @@ use Rattle.bridge_decl.specs.declared.methods.Method.{Method}
 use Rattle.bridge_telling.specs.Telling.{TellsExactly}
 use Rattle.bridge_telling.proofs.ExactLemmas.{exactly_one, exactly_where, in_cases, in_first, in_none, in_rest}
 use Rattle.bridge_telling.proofs.GivenLemmas.{in_map, mapped}
+use Rattle.bridge_telling.proofs.TestLemmas.{or_cases, or_first, or_second}
 use Rattle.hir_attrs.specs.Reading.{about}
 use Rattle.hir_attrs.specs.Special.{special_text}
 use Rattle.hir_attrs.specs.declared.attrs.Attrs.{Attrs}
@@ -40,18 +41,6 @@ module _ {X : Type 0} (kind_of : X → Option SpecialKind) where
   module _ (it : SpecialKind) (field : SeenSpecials → Bool) (test : SpecialKind → Bool) (itself : test it ≡ true) (sole : (k : SpecialKind) → test k ≡ true → k ≡ it)
       (step : (k : SpecialKind) (seen : SeenSpecials) → field (seen_with k seen) ≡ field seen || test k)
     where
-      or_cases : (a b : Bool) → a || b ≡ true → (a ≡ true) ⊎ (b ≡ true)
-      or_cases true b h = inl refl
-      or_cases false b h = inr h
-
-      or_first : (a b : Bool) → a ≡ true → a || b ≡ true
-      or_first true b h = refl
-      or_first false b h = cc
-
-      or_second : (a b : Bool) → b ≡ true → a || b ≡ true
-      or_second true b h = refl
-      or_second false b h = h
-
       -- so one that was seen is one of the list, or was seen before
       after_one : (found : Option SpecialKind) (seen : SeenSpecials) → field (seen_after found seen) ≡ true → (field seen ≡ true) ⊎ (found ≡ Some it)
       after_one None seen h = inl h

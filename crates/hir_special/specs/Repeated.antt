@@ -1,5 +1,6 @@
 -- Special methods that stand once on a type.
 use Rattle.std.specs.Prelude.{List, [], Bool, true, false, not, ◌&&◌, ◌||◌, Option, Some, None}
+use Rattle.bridge_telling.specs.Telling.{one_if}
 use Rattle.hir_attrs.specs.Reading.{about}
 use Rattle.hir_attrs.specs.Special.{special_text}
 use Rattle.hir_attrs.specs.declared.special.kind.SpecialKind.{SpecialKind}
@@ -10,7 +11,6 @@ use Rattle.hir_backends.specs.declared.support.flag.SupportFlag.TheVariants as f
 use Rattle.hir_reports.specs.declared.report.LoweringError.{LoweringError}
 use Rattle.hir_reports.specs.declared.rule.Rule.TheVariants as rule
 use Rattle.hir_special.specs.declared.repeated.SeenSpecials.{SeenSpecials}
-use Rattle.hir_special.specs.Told.{error_if}
 
 abbrev pub is_constructor : SpecialKind → Bool
 is_constructor kind.Constructor = true
@@ -64,4 +64,4 @@ is_repeated supports seen it =
 -- of a method of that kind, or of none, after these
 abbrev pub repeated_errors : BackendAttrSupport → SeenSpecials → Option SpecialKind → List LoweringError
 repeated_errors supports seen None = []
-repeated_errors supports seen (Some it) = error_if (is_repeated supports seen it) (about rule.SpecialRepeated (special_text it))
+repeated_errors supports seen (Some it) = one_if (is_repeated supports seen it) (about rule.SpecialRepeated (special_text it))

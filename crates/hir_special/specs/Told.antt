@@ -1,5 +1,6 @@
 -- What is told of a special method.
-use Rattle.std.specs.Prelude.{List, [], ◌∷◌, ◌++◌, length, Bool, not, Option, Some, None, if◌then◌else◌}
+use Rattle.std.specs.Prelude.{List, [], ◌∷◌, ◌++◌, length, not, Option, Some, None}
+use Rattle.bridge_telling.specs.Telling.{one_if}
 use Rattle.hir_attrs.specs.Reading.{about}
 use Rattle.hir_attrs.specs.Special.{special_kind, special_text}
 use Rattle.hir_attrs.specs.declared.special.SpecialMethod.{SpecialMethod}
@@ -17,10 +18,6 @@ use Rattle.hir_special.specs.Receivers.{is_wrong_count, is_wrong_receiver, is_wr
 use Rattle.hir_special.specs.Returns.{is_right_return}
 use Rattle.hir_special.specs.Support.{missing_flag}
 
--- where something is broken, the error
-abbrev pub error_if : Bool → LoweringError → List LoweringError
-error_if broken error = if broken then error ∷ [] else []
-
 -- that a flag is missing that the mark needs
 abbrev pub needs_error : SpecialKind → SupportFlag → LoweringError
 needs_error it missing = record { rule = rule.SpecialSupport; args = special_text it ∷ flag_text missing ∷ [] }
@@ -32,15 +29,15 @@ support_errors it (Some missing) = needs_error it missing ∷ []
 -- of a type's method of that kind: of its receiver and its parameters
 abbrev pub input_errors : SpecialKind → Method → List LoweringError
 input_errors it method =
-    error_if (is_wrong_receiver it method.param_self) (about rule.SpecialReceiver (special_text it))
-    ++ (error_if (is_wrong_count it (length method.params)) (about rule.SpecialParams (special_text it))
-    ++ (error_if (is_wrong_operand it method.param_self method.params) (plain_error rule.SpecialOperand)
-    ++ error_if (is_wrong_target it method.param_self) (about rule.AssignReceiver (special_text it))))
+    one_if (is_wrong_receiver it method.param_self) (about rule.SpecialReceiver (special_text it))
+    ++ (one_if (is_wrong_count it (length method.params)) (about rule.SpecialParams (special_text it))
+    ++ (one_if (is_wrong_operand it method.param_self method.params) (plain_error rule.SpecialOperand)
+    ++ one_if (is_wrong_target it method.param_self) (about rule.AssignReceiver (special_text it))))
 
 -- of its return, and of the backend
 abbrev pub output_errors : BackendAttrSupport → TypeId → SpecialKind → Method → List LoweringError
 output_errors supports owner it method =
-    error_if (not (is_right_return it owner method.output)) (about rule.SpecialReturn (special_text it))
+    one_if (not (is_right_return it owner method.output)) (about rule.SpecialReturn (special_text it))
     ++ support_errors it (missing_flag supports it method.param_self method.output)
 
 abbrev pub kind_errors : BackendAttrSupport → TypeId → SpecialKind → Method → List LoweringError

@@ -1,6 +1,7 @@
 //! The test of a special method.
 
 ghost use Rattle.std.specs.Prelude.{◌≡◌, OnOk};
+ghost use Rattle.bridge_telling.specs.Telling.{one_if};
 ghost use Rattle.hir_attrs.specs.Reading.{about};
 ghost use Rattle.hir_attrs.specs.Special.{special_text};
 ghost use Rattle.hir_reports.specs.Store.{Held, Keeps, added};
@@ -8,7 +9,7 @@ ghost use Rattle.hir_reports.specs.Texts.{plain_error};
 ghost use Rattle.hir_reports.specs.declared.rule.Rule.TheVariants as rule;
 ghost use Rattle.hir_special.specs.Operands.{is_wrong_operand};
 ghost use Rattle.hir_special.specs.Support.{missing_flag};
-ghost use Rattle.hir_special.specs.Told.{error_if, input_errors, kind_errors, output_errors, special_errors, support_errors};
+ghost use Rattle.hir_special.specs.Told.{input_errors, kind_errors, output_errors, special_errors, support_errors};
 
 use crate::operands::is_wrong_operand;
 use crate::receivers::{is_wrong_count, is_wrong_receiver, is_wrong_target};
@@ -31,7 +32,7 @@ pub(crate) fn tell_if(
     errors: &mut ErrorStore<'_>,
 ) -> Result<(), NoMemory>
     ensures told { OnOk result (errors.new
-        ≡ added errors.old (error_if is_broken (about broken (special_text kind)))) }
+        ≡ added errors.old (one_if is_broken (about broken (special_text kind)))) }
     ensures kept { (earlier : Held) → Keeps earlier errors.old → Keeps earlier errors.new }
 {
     if is_broken {
@@ -47,7 +48,7 @@ fn test_operand(
     method: &Method,
     errors: &mut ErrorStore<'_>,
 ) -> Result<(), NoMemory>
-    ensures told { OnOk result (errors.new ≡ added errors.old (error_if
+    ensures told { OnOk result (errors.new ≡ added errors.old (one_if
         (is_wrong_operand kind method.now.param_self method.now.params)
         (plain_error rule.SpecialOperand))) }
     ensures kept { (earlier : Held) → Keeps earlier errors.old → Keeps earlier errors.new }

@@ -2,8 +2,9 @@
 use Rattle.std.proofs.Common.{◌≡◌, ◌⊎◌, inl, inr, List, [], ◌∷◌, ◌++◌, length, Bool, true, false, Option, Some, None, refl, sym, subst, ap, ◌∙◌}
 use Rattle.std.specs.Prelude.{not}
 use Rattle.std.specs.List.{Contains}
-use Rattle.bridge_telling.specs.Telling.{TellsExactly}
-use Rattle.bridge_telling.proofs.ExactLemmas.{exactly_as, exactly_both, exactly_one, exactly_where, in_first, in_none, in_one}
+use Rattle.bridge_telling.specs.Telling.{TellsExactly, one_if}
+use Rattle.bridge_telling.proofs.ExactLemmas.{exactly_as, exactly_both, exactly_if, in_first, in_none, in_one}
+use Rattle.bridge_telling.proofs.TestLemmas.{false_of_not, not_of_false}
 use Rattle.hir_attrs.specs.Reading.{about}
 use Rattle.hir_attrs.specs.Special.{special_kind, special_text}
 use Rattle.hir_attrs.specs.declared.special.SpecialMethod.{SpecialMethod}
@@ -22,21 +23,9 @@ use Rattle.hir_special.specs.Operands.{is_other, is_same, is_wrong_operand}
 use Rattle.hir_special.specs.Receivers.{is_wrong_count, is_wrong_receiver, is_wrong_target}
 use Rattle.hir_special.specs.Returns.{is_right_return}
 use Rattle.hir_special.specs.Support.{missing_flag}
-use Rattle.hir_special.specs.Told.{error_if, input_errors, kind_errors, marked_errors, needs_error, output_errors, special_errors, support_errors}
+use Rattle.hir_special.specs.Told.{input_errors, kind_errors, marked_errors, needs_error, output_errors, special_errors, support_errors}
 use Rattle.hir_special_rules.specs.SpecialBreaks.{KindBreaks, SpecialBreaks}
 use Rattle.hir_special_rules.specs.rules.SpecialOperand.{SpecialOperand}
-
-not_true : (b : Bool) → not b ≡ true → b ≡ false
-not_true true h = cc
-not_true false h = refl
-
-not_false : (b : Bool) → b ≡ false → not b ≡ true
-not_false true h = cc
-not_false false h = refl
-
--- an error where a test passes
-if_exactly : (b : Bool) (error : LoweringError) → TellsExactly (error_if b error) (λ e. (b ≡ true) × (e ≡ error))
-if_exactly b error = exactly_where b (error ∷ []) (λ e. e ≡ error) (exactly_one error)
 
 -- the flag that is missing
 support_each : (it : SpecialKind) (found : Option SupportFlag) (e : LoweringError) → Contains (support_errors it found) e → (flag : SupportFlag) × ((found ≡ Some flag) × (e ≡ needs_error it flag))
@@ -54,7 +43,7 @@ other_of : (method : Method) (self : Option ParamSelf) (params : List Param) →
 other_of method None params s p h = cc
 other_of method (Some it) [] s p h = cc
 other_of method (Some it) (param ∷ params) s p h =
-    record { compares = refl; receiver = it; is_receiver = s; operand = param; others = params; is_operand = p; differs = not_true (is_same it.ty param.ty) h }
+    record { compares = refl; receiver = it; is_receiver = s; operand = param; others = params; is_operand = p; differs = false_of_not (is_same it.ty param.ty) h }
 
 operand_of : (it : SpecialKind) (method : Method) → is_wrong_operand it method.param_self method.params ≡ true → SpecialOperand it method
 unfolding is_wrong_operand
@@ -65,7 +54,7 @@ of_operand : (it : SpecialKind) (method : Method) → SpecialOperand it method �
 unfolding is_wrong_operand
 of_operand it method b =
     ap (λ k. is_wrong_operand k method.param_self method.params) b.compares
-    ∙ (ap (λ s. is_other s method.params) b.is_receiver ∙ (ap (λ ps. is_other (Some b.receiver) ps) b.is_operand ∙ not_false (is_same b.receiver.ty b.operand.ty) b.differs))
+    ∙ (ap (λ s. is_other s method.params) b.is_receiver ∙ (ap (λ ps. is_other (Some b.receiver) ps) b.is_operand ∙ not_of_false (is_same b.receiver.ty b.operand.ty) b.differs))
 
 -- ---- all of a kind
 
@@ -99,23 +88,23 @@ module _ (supports : BackendAttrSupport) (owner : TypeId) (it : SpecialKind) (me
 
   inputs_exactly : TellsExactly (input_errors it method) inputs
   inputs_exactly =
-      let of_receiver = error_if (is_wrong_receiver it method.param_self) (about rule.SpecialReceiver (special_text it)) in
-      let of_params = error_if (is_wrong_count it (length method.params)) (about rule.SpecialParams (special_text it)) in
-      let of_compared = error_if (is_wrong_operand it method.param_self method.params) (plain_error rule.SpecialOperand) in
-      let of_target = error_if (is_wrong_target it method.param_self) (about rule.AssignReceiver (special_text it)) in
+      let of_receiver = one_if (is_wrong_receiver it method.param_self) (about rule.SpecialReceiver (special_text it)) in
+      let of_params = one_if (is_wrong_count it (length method.params)) (about rule.SpecialParams (special_text it)) in
+      let of_compared = one_if (is_wrong_operand it method.param_self method.params) (plain_error rule.SpecialOperand) in
+      let of_target = one_if (is_wrong_target it method.param_self) (about rule.AssignReceiver (special_text it)) in
       exactly_both of_receiver (of_params ++ (of_compared ++ of_target)) receiver (λ e. params e ⊎ (operand e ⊎ target e))
-      (if_exactly (is_wrong_receiver it method.param_self) (about rule.SpecialReceiver (special_text it)))
+      (exactly_if (is_wrong_receiver it method.param_self) (about rule.SpecialReceiver (special_text it)))
       (exactly_both of_params (of_compared ++ of_target) params (λ e. operand e ⊎ target e)
-      (if_exactly (is_wrong_count it (length method.params)) (about rule.SpecialParams (special_text it)))
+      (exactly_if (is_wrong_count it (length method.params)) (about rule.SpecialParams (special_text it)))
       (exactly_both of_compared of_target operand target
-      (if_exactly (is_wrong_operand it method.param_self method.params) (plain_error rule.SpecialOperand))
-      (if_exactly (is_wrong_target it method.param_self) (about rule.AssignReceiver (special_text it)))))
+      (exactly_if (is_wrong_operand it method.param_self method.params) (plain_error rule.SpecialOperand))
+      (exactly_if (is_wrong_target it method.param_self) (about rule.AssignReceiver (special_text it)))))
 
   outputs_exactly : TellsExactly (output_errors supports owner it method) outputs
   outputs_exactly =
-      exactly_both (error_if (not (is_right_return it owner method.output)) (about rule.SpecialReturn (special_text it)))
+      exactly_both (one_if (not (is_right_return it owner method.output)) (about rule.SpecialReturn (special_text it)))
       (support_errors it (missing_flag supports it method.param_self method.output)) output support
-      (if_exactly (not (is_right_return it owner method.output)) (about rule.SpecialReturn (special_text it)))
+      (exactly_if (not (is_right_return it owner method.output)) (about rule.SpecialReturn (special_text it)))
       (support_exactly it (missing_flag supports it method.param_self method.output))
 
   breaks_inputs : (e : LoweringError) → inputs e → KindBreaks supports owner it method e
@@ -132,7 +121,7 @@ module _ (supports : BackendAttrSupport) (owner : TypeId) (it : SpecialKind) (me
 
   breaks_outputs : (e : LoweringError) → outputs e → KindBreaks supports owner it method e
   breaks_outputs e h = elim h [
-    | inl r ↦ subst (λ d. KindBreaks supports owner it method d) (sym r.1) (KindBreaks.special_return (not_true (is_right_return it owner method.output) r.0))
+    | inl r ↦ subst (λ d. KindBreaks supports owner it method d) (sym r.1) (KindBreaks.special_return (false_of_not (is_right_return it owner method.output) r.0))
     | inr s ↦ subst (λ d. KindBreaks supports owner it method d) (sym s.1.1) (KindBreaks.special_support s.0 s.1.0)
   ]
 
@@ -141,7 +130,7 @@ module _ (supports : BackendAttrSupport) (owner : TypeId) (it : SpecialKind) (me
   told_of _ (KindBreaks.special_params b) = inl (inr (inl (b, refl)))
   told_of _ (KindBreaks.special_operand b) = inl (inr (inr (inl (of_operand it method b, refl))))
   told_of _ (KindBreaks.assign_receiver b) = inl (inr (inr (inr (b, refl))))
-  told_of _ (KindBreaks.special_return b) = inr (inl (not_false (is_right_return it owner method.output) b, refl))
+  told_of _ (KindBreaks.special_return b) = inr (inl (not_of_false (is_right_return it owner method.output) b, refl))
   told_of _ (KindBreaks.special_support flag b) = inr (inr (flag, (b, refl)))
 
   kind_exactly : TellsExactly (kind_errors supports owner it method) (KindBreaks supports owner it method)

@@ -1,4 +1,4 @@
--- SpecialOperand: a comparison's operand, its first parameter, has another type than its receiver.
+-- SpecialOperand: a comparison's operand, its first parameter, isn't the same as its receiver.
 use Rattle.std.specs.Prelude.{◌≡◌, ◌∷◌, List, Some, false}
 use Rattle.hir_attrs.specs.declared.special.kind.SpecialKind.{SpecialKind}
 use Rattle.hir_attrs.specs.declared.special.kind.SpecialKind.TheVariants as kind

@@ -16,7 +16,7 @@ use Rattle.hir_number.specs.Signatures.{without_writer}
 use Rattle.hir_methods.proofs.DisabledLemmas.{enabled_all}
 use Rattle.hir_methods.proofs.FormLemmas.{function_formed, method_formed}
 use Rattle.hir_methods.specs.Functions.{callable_errors, callable_form, disabled_form}
-use Rattle.hir_methods.specs.Methods.{enabled_errors, enabled_form, made_errors, method_form, owner_id, plain_method_errors}
+use Rattle.hir_methods.specs.Methods.{enabled_errors, enabled_form, made_errors, method_errors, method_form, owner_id, plain_method_errors}
 use Rattle.hir_methods.specs.Types.{function_type_errors, function_types, method_type_errors, method_types, unless_told, whole_of}
 use Rattle.hir_methods.specs.Untyped.{each_untyped_errors, heading_errors, heading_form, receiver_mark_errors, receiver_marks, unless_disabled, untyped_forms}
 use Rattle.hir_methods.proofs.laws.what_is_fine_is_made.Goals as goal
@@ -27,6 +27,7 @@ either_form true left_out form called = refl
 either_form false left_out form called = called refl
 
 pub returns-clause-method : goal.returns-clause-method
+unfolding method_errors
 returns-clause-method c = λ backend support config catalog names owner parent method on none.
     let marks = marks_of backend method.attrs parent in
     let told = plain_method_errors backend support config catalog names owner parent method in

@@ -4,11 +4,12 @@ use Rattle.hir_reports.specs.Store.{added}
 use Rattle.hir_special.specs.Told.{special_errors}
 use Rattle.hir_methods.proofs.Outcomes.{and_so, and_so_of}
 use Rattle.hir_methods.proofs.SpecialLemmas.{kept_special, special_told}
-use Rattle.hir_methods.specs.Methods.{method_form, owner_id, plain_method_errors}
+use Rattle.hir_methods.specs.Methods.{method_errors, method_form, owner_id, plain_method_errors}
 use Rattle.hir_methods.specs.Types.{unless_told}
 use Rattle.hir_methods.proofs.methods.lower_method.Goals as goal
 
 pub returns-in-Some-clause-told : goal.returns-in-Some-clause-told
+unfolding method_errors
 returns-in-Some-clause-told g c = λ names is.
     let backend = g.V.AttributeValidator.meaning c.args.validator.now in
     let support = c.args.support.now in
@@ -25,6 +26,7 @@ returns-in-Some-clause-told g c = λ names is.
     c.keep_special.ensures.told
 
 pub returns-in-Some-clause-made : goal.returns-in-Some-clause-made
+unfolding method_errors
 returns-in-Some-clause-made g c = λ names is.
     let backend = g.V.AttributeValidator.meaning c.args.validator.now in
     let support = c.args.support.now in
