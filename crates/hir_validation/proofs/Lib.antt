@@ -1,0 +1,5 @@
+pub mod SetLemmas
+pub mod WalkLemmas
+pub mod ExactlyLemmas
+pub mod BoundLemmas
+pub mod BreakLemmas

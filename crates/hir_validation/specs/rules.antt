@@ -1,0 +1,3 @@
+pub mod ImpliedBound
+pub mod StructRefReturned
+pub mod OpaqueSliceBorrowed

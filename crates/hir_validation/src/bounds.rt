@@ -1,0 +1,586 @@
+//! Bounds that the types of a method imply.
+
+ghost use Rattle.std.specs.Prelude.{◌≡◌, ◌∷◌, [], ℕ, IfOk, OnOk, option_copied, option_map, slice_get, ◌<◌};
+ghost use Rattle.std.specs.List.{enumerate_from, flat_map, list_any};
+ghost use Rattle.hir_context.specs.Lookups.{environment_at};
+ghost use Rattle.hir_life.specs.Naming.{printed_name};
+ghost use Rattle.hir_life.specs.declared.maybe_static.MaybeStatic.{MaybeStatic};
+ghost use Rattle.hir_mentions.specs.Mentions.{where_any};
+ghost use Rattle.hir_reports.specs.Store.{added};
+ghost use Rattle.hir_types.specs.Named.{contained, if_any};
+ghost use Rattle.hir_types.specs.Returns.{error_of};
+ghost use Rattle.hir_validation.specs.ImpliedBounds.{behind_errors, bound_error, definition_errors, implied_errors, lacks_bound, method_bound_errors, named_behind_errors, named_written_errors, numbered_outliving_errors, opaque_bound_errors, outliving_errors, param_bound_errors, param_source, return_source, returned_bound_errors, written_errors, written_longer_errors};
+ghost use Rattle.hir_validation.specs.Lifetimes.{is_in_list};
+ghost use Rattle.hir_validation.specs.WholeTypes.{whole_type};
+
+use crate::returned::lifetime_text;
+use crate::whole::{WholeType, whole_type};
+use bridge_decl::{Items, NoMemory, Text};
+use hir_context::TypeContext;
+use hir_definitions::{Method, Param};
+use hir_ids::{OpaqueId, TypeId};
+use hir_life::{BoundedLifetime, Lifetime, LifetimeEnv, MaybeStatic};
+use hir_reports::{ErrorStore, LoweringError, Rule};
+use hir_types::{HirType, OutType, OutputOnly, ReturnType, TyPosition};
+use std::alloc::Global;
+use std::marker::Model;
+
+/// Whether the lifetime is among these.
+fn is_in_list(lifetime: Lifetime, lifetimes: &[Lifetime]) -> bool
+    ensures { result ≡ is_in_list lifetime lifetimes.now }
+{
+    for other in lifetimes {
+        if lifetime.index() == other.index() {
+            return true;
+        }
+    }
+    false
+}
+
+/// The lifetimes of a definition, where the type has them.
+fn environment_of<'tcx>(tcx: &'tcx TypeContext, id: &TypeId) -> Option<&'tcx LifetimeEnv>
+    ensures { option_copied result ≡ environment_at tcx.now.definitions id.now }
+{
+    match id {
+        TypeId::Struct(id) => match tcx.structs().get(id.index()) {
+            Some(def) => Some(&def.lifetimes),
+            None => None,
+        },
+        TypeId::OutStruct(id) => match tcx.out_structs().get(id.index()) {
+            Some(def) => Some(&def.lifetimes),
+            None => None,
+        },
+        TypeId::Opaque(id) => match tcx.opaques().get(id.index()) {
+            Some(def) => Some(&def.lifetimes),
+            None => None,
+        },
+        TypeId::Enum(_) => None,
+    }
+}
+
+/// A lifetime of a method that has a name, and where it is asked that others outlive it.
+#[derive(Drop)]
+struct Shorter<'m> {
+    env: &'m LifetimeEnv,
+    source: &'m str,
+    number: Lifetime,
+    bounds: &'m BoundedLifetime,
+}
+
+impl<'m> Model for Shorter<'m> {
+    ghost use Rattle.std.specs.Prelude.{◌≡◌, ◌<◌, Some, slice_get};
+    ghost use Rattle.hir_validation.specs.inside.Seen.{NamedLifetime};
+
+    ghost Value = { NamedLifetime };
+
+    ghost view = { λ it. record {
+      env = it.env.now;
+      source = it.source.now;
+      number = it.number;
+      bounds = it.bounds.now;
+    } };
+
+    ghost invariant = { λ it. it.number < it.env.now.count };
+}
+
+impl<'m> Shorter<'m> {
+    /// Whether the lifetime has to outlive it, and isn't declared to.
+    fn lacks(&self, lifetime: Lifetime) -> bool
+        ensures { result ≡ lacks_bound self.now.env self.now.number self.now.bounds lifetime }
+    {
+        lifetime.index() != self.number.index()
+            && !is_in_list(lifetime, self.bounds.longer.as_slice())
+            && self.env.contains(lifetime)
+    }
+
+    /// The error that a bound is wanting which a definition writes, between lifetimes of these names.
+    fn written_error(
+        &self,
+        alloc: Global,
+        lifetime: Lifetime,
+        longer: &BoundedLifetime,
+        shorter: &BoundedLifetime,
+    ) -> Result<LoweringError, NoMemory>
+        requires { lifetime < self.now.env.count }
+        ensures { IfOk result (λ error. error ≡ bound_error self.now.env self.now.source
+            self.now.number lifetime (longer.now.ident ∷ shorter.now.ident ∷ [])) }
+    {
+        let above = lifetime_text(alloc, self.env, lifetime)?;
+        let below = lifetime_text(alloc, self.env, self.number)?;
+        let mut args = Items::new(alloc);
+        args.push(Text::new(alloc, self.source)?)?;
+        args.push(above)?;
+        args.push(below)?;
+        args.push(Text::new(alloc, longer.ident.as_str())?)?;
+        args.push(Text::new(alloc, shorter.ident.as_str())?)?;
+        Ok(LoweringError {
+            rule: Rule::ImpliedBound,
+            args,
+        })
+    }
+
+    /// The error that a bound is wanting which a reference implies.
+    fn behind_error(&self, alloc: Global, lifetime: Lifetime) -> Result<LoweringError, NoMemory>
+        requires { lifetime < self.now.env.count }
+        ensures { IfOk result (λ error. error
+            ≡ bound_error self.now.env self.now.source self.now.number lifetime []) }
+    {
+        let above = lifetime_text(alloc, self.env, lifetime)?;
+        let below = lifetime_text(alloc, self.env, self.number)?;
+        let mut args = Items::new(alloc);
+        args.push(Text::new(alloc, self.source)?)?;
+        args.push(above)?;
+        args.push(below)?;
+        Ok(LoweringError {
+            rule: Rule::ImpliedBound,
+            args,
+        })
+    }
+
+    /// Tells that a bound is wanting, where it is.
+    fn tell_written_number(
+        &self,
+        alloc: Global,
+        longer: &BoundedLifetime,
+        shorter: &BoundedLifetime,
+        lifetime: Lifetime,
+        errors: &mut ErrorStore<'_>,
+    ) -> Result<(), NoMemory>
+        ensures { OnOk result (errors.new ≡ added errors.old
+            (numbered_outliving_errors self.now.env self.now.source self.now.number self.now.bounds
+            (longer.now.ident ∷ shorter.now.ident ∷ []) lifetime)) }
+    {
+        if self.lacks(lifetime) {
+            let error = self.written_error(alloc, lifetime, longer, shorter)?;
+            return errors.push(error);
+        }
+        Ok(())
+    }
+
+    /// The same of what may be `'static`.
+    fn tell_written(
+        &self,
+        alloc: Global,
+        longer: &BoundedLifetime,
+        shorter: &BoundedLifetime,
+        lifetime: &MaybeStatic<Lifetime>,
+        errors: &mut ErrorStore<'_>,
+    ) -> Result<(), NoMemory>
+        ensures { OnOk result (errors.new ≡ added errors.old
+            (outliving_errors self.now.env self.now.source self.now.number self.now.bounds
+            (longer.now.ident ∷ shorter.now.ident ∷ []) lifetime.now)) }
+    {
+        match lifetime {
+            MaybeStatic::Static => Ok(()),
+            MaybeStatic::NonStatic(lifetime) => {
+                self.tell_written_number(alloc, longer, shorter, *lifetime, errors)
+            }
+        }
+    }
+
+    /// Tells that a bound is wanting which a reference implies, where it is.
+    fn tell_behind_number(
+        &self,
+        alloc: Global,
+        lifetime: Lifetime,
+        errors: &mut ErrorStore<'_>,
+    ) -> Result<(), NoMemory>
+        ensures { OnOk result (errors.new ≡ added errors.old (numbered_outliving_errors
+            self.now.env self.now.source self.now.number self.now.bounds [] lifetime)) }
+    {
+        if self.lacks(lifetime) {
+            let error = self.behind_error(alloc, lifetime)?;
+            return errors.push(error);
+        }
+        Ok(())
+    }
+
+    /// The same of what may be `'static`.
+    fn tell_behind(
+        &self,
+        alloc: Global,
+        lifetime: &MaybeStatic<Lifetime>,
+        errors: &mut ErrorStore<'_>,
+    ) -> Result<(), NoMemory>
+        ensures { OnOk result (errors.new ≡ added errors.old (outliving_errors self.now.env
+            self.now.source self.now.number self.now.bounds [] lifetime.now)) }
+    {
+        match lifetime {
+            MaybeStatic::Static => Ok(()),
+            MaybeStatic::NonStatic(lifetime) => self.tell_behind_number(alloc, *lifetime, errors),
+        }
+    }
+
+    /// The same of each that the reference leads to.
+    fn tell_each_behind(
+        &self,
+        alloc: Global,
+        given: &[MaybeStatic<Lifetime>],
+        errors: &mut ErrorStore<'_>,
+    ) -> Result<(), NoMemory>
+        ensures { OnOk result (errors.new ≡ added errors.old (flat_map (outliving_errors
+            self.now.env self.now.source self.now.number self.now.bounds []) given.now)) }
+    {
+        for lifetime in given {
+            self.tell_behind(alloc, lifetime, errors)?;
+        }
+        Ok(())
+    }
+}
+
+/// The lifetime of that number, where it has a name.
+fn shorter_of<'m>(env: &'m LifetimeEnv, source: &'m str, number: Lifetime) -> Option<Shorter<'m>>
+    ensures { result ≡ option_map (λ bounds. record {
+      env = env.now;
+      source = source.now;
+      number = number;
+      bounds = bounds;
+    }) (slice_get env.now.bounds number) }
+{
+    let _named = env.num_lifetimes();
+    match env.get_bounds(number) {
+        Some(bounds) => Some(Shorter {
+            env,
+            source,
+            number,
+            bounds,
+        }),
+        None => None,
+    }
+}
+
+/// A definition whose lifetimes are given, where a type of a method names it.
+#[derive(Drop)]
+struct Given<'m> {
+    env: &'m LifetimeEnv,
+    source: &'m str,
+    definition: &'m LifetimeEnv,
+    given: &'m [MaybeStatic<Lifetime>],
+}
+
+impl Given<'_> {
+    /// The lifetime that stands for that of this number.
+    fn standing_for(&self, number: usize) -> Option<&MaybeStatic<Lifetime>>
+        ensures { option_copied result ≡ slice_get self.now.given.now number }
+    {
+        self.given.get(number)
+    }
+
+    /// Tells of one that is written to outlive another.
+    fn tell_longer(
+        &self,
+        alloc: Global,
+        shorter: &Shorter<'_>,
+        written: &BoundedLifetime,
+        number: &Lifetime,
+        errors: &mut ErrorStore<'_>,
+    ) -> Result<(), NoMemory>
+        ensures { OnOk result (errors.new ≡ added errors.old (written_longer_errors
+            shorter.now.env shorter.now.source self.now.definition.now self.now.given.now written.now
+            shorter.now.number shorter.now.bounds number.now)) }
+    {
+        match self.definition.get_bounds(*number) {
+            Some(longer) => match self.standing_for(number.index()) {
+                Some(lifetime) => shorter.tell_written(alloc, longer, written, lifetime, errors),
+                None => Ok(()),
+            },
+            None => Ok(()),
+        }
+    }
+
+    /// Tells of all that are.
+    fn tell_all_longer(
+        &self,
+        alloc: Global,
+        shorter: &Shorter<'_>,
+        written: &BoundedLifetime,
+        errors: &mut ErrorStore<'_>,
+    ) -> Result<(), NoMemory>
+        ensures { OnOk result (errors.new ≡ added errors.old (flat_map (written_longer_errors
+            shorter.now.env shorter.now.source self.now.definition.now self.now.given.now written.now
+            shorter.now.number shorter.now.bounds) written.now.longer)) }
+    {
+        for number in written.longer.as_slice() {
+            self.tell_longer(alloc, shorter, written, number, errors)?;
+        }
+        Ok(())
+    }
+
+    /// Tells of what has to outlive the lifetime that stands for one of the definition's.
+    fn tell_named(
+        &self,
+        alloc: Global,
+        written: &BoundedLifetime,
+        lifetime: Lifetime,
+        errors: &mut ErrorStore<'_>,
+    ) -> Result<(), NoMemory>
+        ensures { OnOk result (errors.new ≡ added errors.old (named_written_errors
+            self.now.env.now self.now.source.now self.now.definition.now self.now.given.now
+            written.now lifetime)) }
+    {
+        match shorter_of(self.env, self.source, lifetime) {
+            Some(shorter) => self.tell_all_longer(alloc, &shorter, written, errors),
+            None => Ok(()),
+        }
+    }
+
+    /// Tells of a lifetime of the definition, by its number.
+    fn tell_written(
+        &self,
+        alloc: Global,
+        number: usize,
+        written: &BoundedLifetime,
+        errors: &mut ErrorStore<'_>,
+    ) -> Result<(), NoMemory>
+        ensures { OnOk result (errors.new ≡ added errors.old (written_errors self.now.env.now
+            self.now.source.now self.now.definition.now self.now.given.now
+            (number, written.now))) }
+    {
+        match self.standing_for(number) {
+            Some(MaybeStatic::NonStatic(lifetime)) => {
+                self.tell_named(alloc, written, *lifetime, errors)
+            }
+            Some(MaybeStatic::Static) | None => Ok(()),
+        }
+    }
+
+    /// The same, where there is one.
+    fn tell_number(
+        &self,
+        alloc: Global,
+        number: usize,
+        errors: &mut ErrorStore<'_>,
+    ) -> Result<(), NoMemory>
+        ensures { OnOk result (errors.new ≡ added errors.old (where_any (λ written.
+            written_errors self.now.env.now self.now.source.now self.now.definition.now
+            self.now.given.now (number, written))
+            (slice_get self.now.definition.now.bounds number))) }
+    {
+        match self.definition.get_bounds(Lifetime::new(number)) {
+            Some(written) => self.tell_written(alloc, number, written, errors),
+            None => Ok(()),
+        }
+    }
+
+    /// Tells of all that the definition writes.
+    fn tell_all(&self, alloc: Global, errors: &mut ErrorStore<'_>) -> Result<(), NoMemory>
+        ensures { OnOk result (errors.new ≡ added errors.old (definition_errors self.now.env.now
+            self.now.source.now self.now.given.now self.now.definition.now)) }
+    {
+        for number in 0..self.definition.num_lifetimes() {
+            self.tell_number(alloc, number, errors)?;
+        }
+        Ok(())
+    }
+}
+
+/// A type of a method: its lifetimes, and where it stands.
+#[derive(Clone, Copy)]
+struct Where<'m> {
+    env: &'m LifetimeEnv,
+    source: &'m str,
+}
+
+/// Tells of the bounds that a definition writes, where its lifetimes are given.
+fn tell_definition(
+    alloc: Global,
+    tcx: &TypeContext,
+    at: &Where<'_>,
+    id: &TypeId,
+    given: &[MaybeStatic<Lifetime>],
+    errors: &mut ErrorStore<'_>,
+) -> Result<(), NoMemory>
+    ensures { OnOk result (errors.new ≡ added errors.old (where_any (definition_errors
+        at.now.env.now at.now.source.now given.now) (environment_at tcx.now.definitions id.now))) }
+{
+    match environment_of(tcx, id) {
+        Some(definition) => {
+            let all = Given {
+                env: at.env,
+                source: at.source,
+                definition,
+                given,
+            };
+            all.tell_all(alloc, errors)
+        }
+        None => Ok(()),
+    }
+}
+
+/// Tells of what has to outlive a reference of that lifetime.
+fn tell_behind(
+    alloc: Global,
+    at: &Where<'_>,
+    borrow: Lifetime,
+    given: &[MaybeStatic<Lifetime>],
+    errors: &mut ErrorStore<'_>,
+) -> Result<(), NoMemory>
+    ensures { OnOk result (errors.new ≡ added errors.old
+        (named_behind_errors at.now.env.now at.now.source.now given.now borrow)) }
+{
+    match shorter_of(at.env, at.source, borrow) {
+        Some(shorter) => shorter.tell_each_behind(alloc, given, errors),
+        None => Ok(()),
+    }
+}
+
+/// The same of an opaque, where it is behind one.
+fn tell_borrow(
+    alloc: Global,
+    at: &Where<'_>,
+    borrow: &Option<MaybeStatic<Lifetime>>,
+    given: &[MaybeStatic<Lifetime>],
+    errors: &mut ErrorStore<'_>,
+) -> Result<(), NoMemory>
+    ensures { OnOk result (errors.new ≡ added errors.old
+        (where_any (behind_errors at.now.env.now at.now.source.now given.now) borrow.now)) }
+{
+    match borrow {
+        Some(MaybeStatic::NonStatic(borrow)) => tell_behind(alloc, at, *borrow, given, errors),
+        Some(MaybeStatic::Static) | None => Ok(()),
+    }
+}
+
+/// Tells of an opaque.
+#[tactic(auto, using(hir_reports::proofs::StoreLaws::added_more))]
+fn tell_opaque(
+    alloc: Global,
+    tcx: &TypeContext,
+    at: &Where<'_>,
+    id: OpaqueId,
+    borrow: &Option<MaybeStatic<Lifetime>>,
+    given: &[MaybeStatic<Lifetime>],
+    errors: &mut ErrorStore<'_>,
+) -> Result<(), NoMemory>
+    ensures { OnOk result (errors.new ≡ added errors.old (opaque_bound_errors at.now.env.now
+        at.now.source.now tcx.now.definitions id borrow.now given.now)) }
+{
+    tell_definition(alloc, tcx, at, &TypeId::Opaque(id), given, errors)?;
+    tell_borrow(alloc, at, borrow, given, errors)
+}
+
+/// Tells of a type of a method: of the bounds that its definition writes, and of those that a reference implies.
+#[tactic(auto, unfolding(crate::specs::ImpliedBounds::implied_errors))]
+fn tell_implied<P: TyPosition>(
+    alloc: Global,
+    tcx: &TypeContext,
+    at: &Where<'_>,
+    ty: &HirType<P>,
+    errors: &mut ErrorStore<'_>,
+) -> Result<(), NoMemory>
+    ensures { OnOk result (errors.new ≡ added errors.old (implied_errors at.now.env.now
+        at.now.source.now tcx.now.definitions (whole_type P.OpaqueOwnership.borrow_of
+        P.StructPath.id_of P.StructPath.lifetimes_of P.StructPath.held_of ty.now))) }
+{
+    match &whole_type(ty) {
+        WholeType::Opaque(id, borrow, given) => {
+            tell_opaque(alloc, tcx, at, *id, borrow, given, errors)
+        }
+        WholeType::Struct(id, _, given) => tell_definition(alloc, tcx, at, id, given, errors),
+        WholeType::Primitive | WholeType::Enum(_) | WholeType::Slice(_) | WholeType::Other => {
+            Ok(())
+        }
+    }
+}
+
+/// Tells of a parameter.
+fn tell_param(
+    alloc: Global,
+    tcx: &TypeContext,
+    env: &LifetimeEnv,
+    param: &Param,
+    errors: &mut ErrorStore<'_>,
+) -> Result<(), NoMemory>
+    ensures { OnOk result (errors.new ≡ added errors.old
+        (param_bound_errors tcx.now.definitions env.now param.now)) }
+{
+    let name = param.name.as_str();
+    let source = Text::from(format!(in alloc; "param {name}")?);
+    let at = Where {
+        env,
+        source: source.as_str(),
+    };
+    tell_implied(alloc, tcx, &at, &param.ty, errors)
+}
+
+/// Tells of each parameter.
+fn tell_params(
+    alloc: Global,
+    tcx: &TypeContext,
+    env: &LifetimeEnv,
+    params: &[Param],
+    errors: &mut ErrorStore<'_>,
+) -> Result<(), NoMemory>
+    ensures { OnOk result (errors.new ≡ added errors.old
+        (flat_map (param_bound_errors tcx.now.definitions env.now) params.now)) }
+{
+    for param in params {
+        tell_param(alloc, tcx, env, param, errors)?;
+    }
+    Ok(())
+}
+
+/// Tells of a type that is returned, where there is one.
+fn tell_returned(
+    alloc: Global,
+    tcx: &TypeContext,
+    env: &LifetimeEnv,
+    ty: Option<&OutType>,
+    errors: &mut ErrorStore<'_>,
+) -> Result<(), NoMemory>
+    ensures { OnOk result (errors.new ≡ added errors.old
+        (flat_map (returned_bound_errors tcx.now.definitions env.now)
+        (if_any (option_copied ty.entry)))) }
+{
+    match ty {
+        Some(ty) => {
+            let at = Where {
+                env,
+                source: "return type",
+            };
+            tell_implied(alloc, tcx, &at, ty, errors)
+        }
+        None => Ok(()),
+    }
+}
+
+/// The type of the error, where there is one.
+fn error_type(output: &ReturnType<OutputOnly>) -> Option<&OutType>
+    ensures { option_copied result ≡ error_of output.now }
+{
+    match output {
+        ReturnType::Fallible(_, Some(error)) => Some(error),
+        _ => None,
+    }
+}
+
+/// Tells of the types that are returned.
+fn tell_output(
+    alloc: Global,
+    tcx: &TypeContext,
+    env: &LifetimeEnv,
+    output: &ReturnType<OutputOnly>,
+    errors: &mut ErrorStore<'_>,
+) -> Result<(), NoMemory>
+    ensures { OnOk result (errors.new ≡ added errors.old
+        (flat_map (returned_bound_errors tcx.now.definitions env.now) (contained output.now))) }
+{
+    tell_returned(alloc, tcx, env, output.success_type().as_type(), errors)?;
+    tell_returned(alloc, tcx, env, error_type(output), errors)
+}
+
+/// Tells of the bounds that the types of a method of a type imply, and that it doesn't declare.
+#[tactic(auto, using(hir_reports::proofs::StoreLaws::added_more), unfolding(crate::specs::ImpliedBounds::method_bound_errors))]
+pub(crate) fn tell_bounds(
+    alloc: Global,
+    tcx: &TypeContext,
+    method: &Method,
+    errors: &mut ErrorStore<'_>,
+) -> Result<(), NoMemory>
+    ensures { OnOk result (errors.new
+        ≡ added errors.old (method_bound_errors tcx.now.definitions method.now)) }
+{
+    let env = &method.lifetime_env;
+    tell_params(alloc, tcx, env, method.params.as_slice(), errors)?;
+    tell_output(alloc, tcx, env, &method.output, errors)
+}
