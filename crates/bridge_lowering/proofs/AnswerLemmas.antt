@@ -1,23 +1,20 @@
 -- From what a context is, and what its callables may borrow, to what declarations are answered with.
-use Rattle.std.proofs.Common.{◌≡◌, ◌≢◌, ℕ, List, [], ◌∷◌, Result, Ok, Err, refl, sym, ap, subst, ◌∙◌, arith, inl, inr}
-use Rattle.std.specs.Prelude.{◌⊎◌}
+use Rattle.std.proofs.Common.{◌≡◌, ◌≢◌, List, [], ◌∷◌, Result, Ok, Err, refl, sym, ap, subst, ◌∙◌, arith, inl, inr}
 use Rattle.std.specs.List.{Contains}
 use Rattle.bridge_callables.specs.Declared.{declared_callables}
 use Rattle.bridge_decl.specs.declared.modules.Module.{Module}
 use Rattle.bridge_order.specs.declared.catalog.Catalog.{Catalog}
 use Rattle.bridge_places.specs.Entries.{IsCatalog}
 use Rattle.bridge_report.specs.Borrowings.{AreReported}
-use Rattle.bridge_report.specs.Callables.{Callable}
 use Rattle.bridge_report.specs.InContext.{callables}
 use Rattle.bridge_report.specs.declared.report.BridgeReport.{BridgeReport}
-use Rattle.bridge_telling.specs.Telling.{TellsExactly, TellsPlaces}
+use Rattle.bridge_telling.specs.Telling.{TellsExactly}
 use Rattle.bridge_validation.specs.CallablesBreak.{CallablesBreak}
 use Rattle.bridge_validation.specs.Told.{callable_reports}
 use Rattle.hir_backends.specs.Backend.{Backend}
 use Rattle.hir_config.specs.declared.config.LoweringConfig.{LoweringConfig}
 use Rattle.hir_context.specs.declared.context.TypeContext.{TypeContext}
 use Rattle.hir_context.specs.declared.parts.Definitions.{Definitions}
-use Rattle.hir_lower.specs.Acceptance.{HoldsByCatalog}
 use Rattle.hir_lower.specs.Answers.{AnswersDeclarations, AreStoodFor, AreToldOf}
 use Rattle.hir_lower.specs.Contexts.{StandForItems}
 use Rattle.hir_lower.specs.declared.fault.LowerFault.{LowerFault}
@@ -27,9 +24,10 @@ use Rattle.hir_lowering.specs.Walks.{interface_of}
 use Rattle.hir_naming.specs.Meaning.{naming_of}
 use Rattle.hir_reports.specs.declared.report.LoweringReport.{LoweringReport}
 use Rattle.hir_rules.specs.Broken.{IsBroken}
-use Rattle.bridge_lowering.specs.Answers.{AnswersReport, AreAcceptedWith, AreBorrowed, AreRefusedWith}
-use Rattle.bridge_lowering.specs.Broken.{Break, BreakNothing, BreaksRule, HoldsOf}
-use Rattle.bridge_lowering.specs.inside.Borrowing.{BorrowsIn, IsReportIn}
+use Rattle.bridge_lowering.specs.Answers.{AnswersReport, AreRefusedWith}
+use Rattle.bridge_lowering.specs.Broken.{Break, BreakNothing, BreaksRule, LoweredBreak}
+use Rattle.bridge_lowering.specs.inside.Borrowing.{BorrowsIn}
+use Rattle.bridge_lowering.proofs.SameLemmas.{one_context}
 
 -- modules have one catalog
 abbrev pub OneCatalog : Type 0
@@ -41,7 +39,7 @@ ReadAlike = (it : Interface) (defs : Definitions) → IsCatalog it.modules it.ca
 
 -- what is told of callables is what breaks a rule
 abbrev pub ToldByRules : Type 0
-ToldByRules = (cs : List Callable) → TellsExactly (callable_reports cs) (CallablesBreak cs)
+ToldByRules = (defs : Definitions) → TellsExactly (callable_reports defs) (CallablesBreak defs)
 
 first_stands : {A : Type 0} (xs : List A) → xs ≢ [] → (x : A) × Contains xs x
 first_stands [] some = absurd (some refl)
@@ -68,11 +66,16 @@ module _ (one_catalog : OneCatalog) (by_rules : ToldByRules) (modules : List Mod
   breaks_here : (r : LoweringReport) → BreaksRule it r → Breaks r
   breaks_here r b = record { catalog = catalog; is = is; holds = b }
 
+  -- what callables break is broken by those of any context that stands for the declarations, since there is one
+  breaks_in : (defs : Definitions) → StandForItems it defs → (r : LoweringReport) → LoweredBreak it r → Contains (callable_reports defs) r
+  breaks_in defs stand r b =
+      (by_rules defs r).1 (subst (λ (d : Definitions). CallablesBreak d r) (one_context it b.definitions defs b.stand stand) b.breaks)
+
   -- nothing is
-  no_rule : ((r : LoweringReport) → ¬ (IsBroken it r)) → callable_reports (declared_callables it) ≡ [] → BreakNothing modules backend config
-  no_rule unbroken quiet r b = elim (broken_here r b) [
+  no_rule : (defs : Definitions) → StandForItems it defs → ((r : LoweringReport) → ¬ (IsBroken it r)) → callable_reports defs ≡ [] → BreakNothing modules backend config
+  no_rule defs stand unbroken quiet r b = elim (broken_here r b) [
     | inl l ↦ unbroken r l
-    | inr m ↦ none_stands (callable_reports (declared_callables it)) r quiet ((by_rules (declared_callables it) r).1 m.1)
+    | inr m ↦ none_stands (callable_reports defs) r quiet (breaks_in defs stand r m.1)
   ]
 
   -- what is told while declarations are lowered
@@ -90,18 +93,19 @@ module _ (one_catalog : OneCatalog) (by_rules : ToldByRules) (modules : List Mod
   }
 
   -- what is told of callables
-  refused_callables : (told : List LoweringReport) → ((r : LoweringReport) → ¬ (IsBroken it r)) → told ≡ callable_reports (declared_callables it) → told ≢ []
-      → AreRefusedWith modules backend config told
-  refused_callables told unbroken e some = record {
+  refused_callables : (defs : Definitions) → StandForItems it defs → (told : List LoweringReport) → ((r : LoweringReport) → ¬ (IsBroken it r)) → told ≡ callable_reports defs
+      → told ≢ [] → AreRefusedWith modules backend config told
+  refused_callables defs stand told unbroken e some = record {
     some = some;
     broken = record {
-      each = λ r h. breaks_here r (inr (unbroken, (by_rules (declared_callables it) r).0 (subst (λ rs. Contains rs r) e h)));
+      each = λ r h.
+          breaks_here r (inr (unbroken, record { definitions = defs; stand = stand; breaks = (by_rules defs r).0 (subst (λ rs. Contains rs r) e h) }));
       every = λ r b. elim (broken_here r b) [
         | inl l ↦ absurd (unbroken r l)
-        | inr m ↦ (r, (subst (λ rs. Contains rs r) (sym e) ((by_rules (declared_callables it) r).1 m.1), refl))
+        | inr m ↦ (r, (subst (λ rs. Contains rs r) (sym e) (breaks_in defs stand r m.1), refl))
       ];
     };
-    ordered = record { catalog = catalog; is = is; holds = inr e };
+    ordered = record { catalog = catalog; is = is; holds = inr (record { definitions = defs; stand = stand; is = e }) };
   }
 
   module _ (read_alike : ReadAlike) (defs : Definitions) (stood : AreStoodFor it defs) where
@@ -110,7 +114,7 @@ module _ (one_catalog : OneCatalog) (by_rules : ToldByRules) (modules : List Mod
 
     pub answered_in : (result : Result BridgeReport LowerFault) → BorrowsIn defs result → AnswersReport modules backend config result
     answered_in (Ok report) b = record {
-      unbroken = no_rule stood.unbroken (sym (ap callable_reports same) ∙ b.unbroken);
+      unbroken = no_rule defs stood.stand stood.unbroken b.unbroken;
       borrowed = record {
         catalog = catalog;
         is = is;
@@ -121,7 +125,7 @@ module _ (one_catalog : OneCatalog) (by_rules : ToldByRules) (modules : List Mod
         };
       };
     }
-    answered_in (Err (fault.Refused told)) b = refused_callables told.items stood.unbroken (b.0 ∙ ap callable_reports same) b.1
+    answered_in (Err (fault.Refused told)) b = refused_callables defs stood.stand told.items stood.unbroken b.0 b.1
     answered_in (Err fault.NoMemory) b = tt
 
 -- declarations in which a rule is broken while they are lowered

@@ -11,6 +11,7 @@ use Rattle.bridge_telling.specs.Telling.{TellsPlaces}
 use Rattle.bridge_validation.specs.Told.{callable_reports}
 use Rattle.hir_backends.specs.Backend.{Backend}
 use Rattle.hir_config.specs.declared.config.LoweringConfig.{LoweringConfig}
+use Rattle.hir_context.specs.declared.parts.Definitions.{Definitions}
 use Rattle.hir_lower.specs.Contexts.{StandForItems}
 use Rattle.hir_lower.specs.Refusals.{IsRefusal}
 use Rattle.hir_lower.specs.declared.fault.LowerFault.{LowerFault}
@@ -26,9 +27,15 @@ pub record AreBorrowed (it : Interface) (report : BridgeReport) : Type 0 where
   pub same : callables report.tcx.definitions ≡ declared_callables it
   pub reported : AreReported (declared_callables it) report.callables
 
+-- those of the callables of the context that stands for the declarations
+pub record AreOfCallables (it : Interface) (told : List LoweringReport) : Type 0 where
+  pub definitions : Definitions
+  pub stand : StandForItems it definitions
+  pub is : told ≡ callable_reports definitions
+
 -- they come in order: those of modules and then those of items, kind by kind; or those of callables
 abbrev pub AreInOrder : Interface → List LoweringReport → Type 0
-AreInOrder it told = IsRefusal it told ⊎ (told ≡ callable_reports (declared_callables it))
+AreInOrder it told = IsRefusal it told ⊎ AreOfCallables it told
 
 -- what is told of declarations that break a rule: each report tells one that is broken, at its place; and each place at which one is has a
 -- report

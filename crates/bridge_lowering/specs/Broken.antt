@@ -1,20 +1,27 @@
 -- What is broken in declarations, in all phases: while they are lowered and in how their structs nest (`IsBroken` of `hir_rules`); and, where
--- nothing is, by their callables (`CallablesBreak` of `bridge_validation`).
+-- nothing is, by the callables of the context that stands for them (`CallablesBreak` of `bridge_validation`).
 use Rattle.std.specs.Prelude.{◌⊎◌, List}
-use Rattle.bridge_callables.specs.Declared.{declared_callables}
 use Rattle.bridge_decl.specs.declared.modules.Module.{Module}
 use Rattle.bridge_validation.specs.CallablesBreak.{CallablesBreak}
 use Rattle.hir_backends.specs.Backend.{Backend}
 use Rattle.hir_config.specs.declared.config.LoweringConfig.{LoweringConfig}
+use Rattle.hir_context.specs.declared.parts.Definitions.{Definitions}
 use Rattle.hir_lower.specs.Acceptance.{HoldsByCatalog}
+use Rattle.hir_lower.specs.Contexts.{StandForItems}
 use Rattle.hir_lowering.specs.Interface.{Interface}
 use Rattle.hir_naming.specs.Meaning.{naming_of}
 use Rattle.hir_reports.specs.declared.report.LoweringReport.{LoweringReport}
 use Rattle.hir_rules.specs.Broken.{IsBroken}
 
+-- a callable of the definitions that stand for the declarations breaks a rule there: there is one context that does
+pub record LoweredBreak (it : Interface) (report : LoweringReport) : Type 0 where
+  pub definitions : Definitions
+  pub stand : StandForItems it definitions
+  pub breaks : CallablesBreak definitions report
+
 -- a rule is broken there, with these arguments
 abbrev pub BreaksRule : Interface → LoweringReport → Type 0
-BreaksRule it report = IsBroken it report ⊎ (((r : LoweringReport) → ¬ (IsBroken it r)) × CallablesBreak (declared_callables it) report)
+BreaksRule it report = IsBroken it report ⊎ (((r : LoweringReport) → ¬ (IsBroken it r)) × LoweredBreak it report)
 
 -- something holds of declarations, for a backend and by what is allowed, where paths mean what they name, and each item is what the
 -- catalog of the modules says: they have one

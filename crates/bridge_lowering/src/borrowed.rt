@@ -3,7 +3,6 @@
 ghost use Rattle.std.specs.Prelude.{◌≡◌, []};
 ghost use Rattle.bridge_lowering.specs.Answers.{AnswersReport};
 ghost use Rattle.bridge_lowering.specs.inside.Borrowing.{BorrowsIn};
-ghost use Rattle.bridge_report.specs.InContext.{callables};
 ghost use Rattle.bridge_validation.specs.Told.{callable_reports};
 
 use bridge_ast::Env;
@@ -20,7 +19,7 @@ use std::alloc::Global;
 
 /// What the results of the callables of a context may borrow.
 fn report_of(alloc: Global, tcx: TypeContext) -> Result<BridgeReport, LowerFault>
-    requires { callable_reports (callables tcx.definitions) ≡ [] }
+    requires { callable_reports tcx.definitions ≡ [] }
     ensures { BorrowsIn tcx.definitions result }
 {
     match borrowings(alloc, &tcx) {

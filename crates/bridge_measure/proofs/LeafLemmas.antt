@@ -14,10 +14,12 @@ use Rattle.bridge_decl.specs.declared.modules.Module.{Module}
 use Rattle.bridge_generate.specs.Generated.{function_numbered, generated_module, struct_numbered}
 use Rattle.bridge_order.specs.declared.catalog.Catalog.{Catalog}
 use Rattle.bridge_report.specs.Callables.{Callable}
+use Rattle.bridge_report.specs.InContext.{callables}
 use Rattle.bridge_validation.specs.CallablesBreak.{CallableBreaks, CallablesBreak}
 use Rattle.bridge_validation.specs.Told.{is_type_method}
 use Rattle.hir_backends.specs.Backend.{Backend}
 use Rattle.hir_config.specs.declared.config.LoweringConfig.{LoweringConfig}
+use Rattle.hir_context.specs.declared.parts.Definitions.{Definitions}
 use Rattle.hir_life.specs.Substitution.{identity}
 use Rattle.hir_life.specs.declared.maybe_static.MaybeStatic.{MaybeStatic}
 use Rattle.hir_life.specs.declared.maybe_static.MaybeStatic.TheVariants.{NonStatic}
@@ -41,9 +43,10 @@ use Rattle.bridge_measure.proofs.SignatureLemmas.{made_signature, numbered_borro
 use Rattle.bridge_measure.proofs.SkeletonLemmas.{fields_are, skeleton_of_borrow, skeleton_of_struct, skeletons_by}
 
 -- a function with few leaves breaks no rule
-stands : (c : Callable) (error : LoweringError) → length c.leaves ≤ 9 → is_type_method c.id ≡ false → ¬ (CallableBreaks c error)
-stands c _ few function (CallableBreaks.too_many_leaves more) = omega (arith, more, few)
-stands c _ few function (CallableBreaks.elided_return breaks) = let both : true ≡ false = sym (ap is_type_method breaks.is_method) ∙ function in cc
+stands : (defs : Definitions) (c : Callable) (error : LoweringError) → length c.leaves ≤ 9 → is_type_method c.id ≡ false → ¬ (CallableBreaks defs c error)
+stands defs c _ few function (CallableBreaks.too_many_leaves more) = omega (arith, more, few)
+stands defs c _ few function (CallableBreaks.elided_return breaks) = let both : true ≡ false = sym (ap is_type_method breaks.is_method) ∙ function in cc
+stands defs c _ few function (CallableBreaks.as_method _ _ _ _ is _ _) = let both : true ≡ false = sym (ap is_type_method is) ∙ function in cc
 
 -- ---- leaves that carry one of the lifetimes 0 and 1 each
 
@@ -164,9 +167,9 @@ module _ (count : ℕ) (backend : Backend) (config : LoweringConfig) (names : �
         (function_found : (k : ℕ) → k < count
         → found_at (measured count) (function_place count k) ≡ Some (generated_module count, item.Function (function_numbered k)))
       where
-        -- none breaks a rule
-        pub callables_stand : (report : LoweringReport) → ¬ (CallablesBreak (declared_callables it) report)
-        callables_stand report breaks =
+        -- none breaks a rule, in any context that has these
+        pub callables_stand : (defs : Definitions) → callables defs ≡ declared_callables it → (report : LoweringReport) → ¬ (CallablesBreak defs report)
+        callables_stand defs same report breaks =
             let callable : ℕ → Callable = made_callable count backend config names catalog in
             let few : All (λ (c : Callable). length c.leaves ≤ 9) (map callable (range_with_len 0 count)) =
             All-map (λ (c : Callable). length c.leaves ≤ 9) callable (range_with_len 0 count)
@@ -175,7 +178,7 @@ module _ (count : ℕ) (backend : Backend) (config : LoweringConfig) (names : �
             All-map (λ (c : Callable). is_type_method c.id ≡ false) callable (range_with_len 0 count)
             (all_below count (λ k. is_type_method (callable k).id ≡ false) (λ k within. refl)) in
             let are = callables_are count backend config names catalog known found_is function_found in
-            let among = subst (λ cs. Contains cs breaks.callable) are breaks.among in
+            let among = subst (λ cs. Contains cs breaks.callable) (same ∙ are) breaks.among in
             let fits = All-contains (λ (c : Callable). length c.leaves ≤ 9) (map callable (range_with_len 0 count)) breaks.callable few among in
             let function = All-contains (λ (c : Callable). is_type_method c.id ≡ false) (map callable (range_with_len 0 count)) breaks.callable functions among in
-            absurd (stands breaks.callable breaks.error fits function breaks.breaks)
+            absurd (stands defs breaks.callable breaks.error fits function breaks.breaks)

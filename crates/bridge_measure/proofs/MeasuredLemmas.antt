@@ -9,10 +9,13 @@ use Rattle.bridge_lowering.specs.Answers.{AreRefusedWith}
 use Rattle.bridge_lowering.specs.Broken.{BreakNothing}
 use Rattle.bridge_order.specs.declared.catalog.Catalog.{Catalog}
 use Rattle.bridge_places.specs.Entries.{IsCatalog}
+use Rattle.bridge_report.specs.InContext.{callables}
 use Rattle.bridge_summary.specs.Summary.{AreListed}
 use Rattle.hir_backends.specs.Backend.{Backend}
 use Rattle.hir_backends.specs.Support.{with_flag}
 use Rattle.hir_config.specs.declared.config.LoweringConfig.{LoweringConfig}
+use Rattle.hir_context.specs.declared.parts.Definitions.{Definitions}
+use Rattle.hir_lower.specs.Contexts.{StandForItems}
 use Rattle.hir_lowering.specs.Interface.{Interface}
 use Rattle.hir_lowering.specs.Lowered.{lowering_reports}
 use Rattle.hir_naming.specs.Meaning.{naming_of}
@@ -57,9 +60,13 @@ abbrev AreTold : Type 0
 AreTold = (it : Interface) (report : LoweringReport) → IsCatalog it.modules it.catalog → LoweringBreaks it report
     → (told : LoweringReport) × (Contains (lowering_reports it) told × (told.context ≡ report.context))
 
-pub breaks_nothing : AreTold → (count : ℕ) (backend : Backend) (config : LoweringConfig) → count < 2 ^ 64 → backend.supports.free_functions ≡ true
+-- the callables of a context are those that are declared (a law of `bridge_callables`)
+abbrev ReadAlike : Type 0
+ReadAlike = (it : Interface) (defs : Definitions) → IsCatalog it.modules it.catalog → StandForItems it defs → callables defs ≡ declared_callables it
+
+pub breaks_nothing : AreTold → ReadAlike → (count : ℕ) (backend : Backend) (config : LoweringConfig) → count < 2 ^ 64 → backend.supports.free_functions ≡ true
     → BreakNothing (generated_module count ∷ []) backend config
-breaks_nothing every count backend config fits free report broken =
+breaks_nothing every alike count backend config fits free report broken =
     let catalog = broken.catalog in
     let it = measured_by count backend config catalog in
     let here = known count backend config catalog fits broken.is in
@@ -67,8 +74,10 @@ breaks_nothing every count backend config fits free report broken =
       | inl (inl lowering) ↦
           nothing_broken it (nothing_reported count fits it refl here free (found_is count)) (λ r b. every it r broken.is b) report lowering
       | inl (inr nesting) ↦ nesting_stands count backend config (naming_of (measured count)) catalog here (found_is count) report nesting.1
-      | inr callables ↦
-          callables_stand count backend config (naming_of (measured count)) catalog here (struct_found count) (found_is count) (function_found count) report callables.1
+      | inr lowered ↦
+          let context = lowered.1 in
+          callables_stand count backend config (naming_of (measured count)) catalog here (struct_found count) (found_is count) (function_found count) context.definitions
+          (alike it context.definitions broken.is context.stand) report context.breaks
     ]
 
 -- what is refused breaks a rule

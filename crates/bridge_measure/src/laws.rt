@@ -12,6 +12,7 @@ ghost use Rattle.bridge_summary.specs.Summary.{AreListed};
 ghost use Rattle.hir_backends.specs.Backend.{Backend};
 ghost use Rattle.hir_config.specs.declared.config.LoweringConfig.{LoweringConfig};
 
+use bridge_callables::callables_are_read_as_declared;
 use hir_rules::what_is_told_is_broken;
 
 /// They break no rule, for each backend that has functions outside of types, whatever the configuration allows.
@@ -20,6 +21,7 @@ pub fn generated_declarations_break_no_rule()
         → count < 2 ^ 64 → backend.supports.free_functions ≡ true
         → BreakNothing (generated_module count ∷ []) backend config }
 {
+    callables_are_read_as_declared();
     what_is_told_is_broken();
 }
 

@@ -6,7 +6,7 @@ ghost use Rattle.bridge_leaves.specs.Limits.{has_too_many};
 ghost use Rattle.bridge_report.specs.InContext.{callable_at, callables};
 ghost use Rattle.bridge_report.specs.Places.{shown_place};
 ghost use Rattle.bridge_telling.specs.Telling.{one_if};
-ghost use Rattle.bridge_validation.specs.Told.{callable_reports, callable_reports_of, elides, is_type_method, is_unnamed};
+ghost use Rattle.bridge_validation.specs.Told.{callable_reports, callable_reports_of, elides, is_type_method, is_unnamed, method_errors_of};
 ghost use Rattle.hir_reports.specs.Store.{added};
 ghost use Rattle.hir_reports.specs.Texts.{plain_error};
 ghost use Rattle.hir_types.specs.Named.{lifetimes_in, lifetimes_named};
@@ -20,6 +20,7 @@ use hir_definitions::Method;
 use hir_life::{Lifetime, LifetimeEnv, MaybeStatic};
 use hir_reports::{ErrorStore, LoweringError, LoweringReport, Rule};
 use hir_types::{OutType, OutputOnly, ReturnType};
+use hir_validation::validate_method;
 use std::alloc::Global;
 
 /// Whether it is a method of a type.
@@ -117,6 +118,23 @@ fn tell_if(
     Ok(())
 }
 
+/// Tells of the method of an id what its types break, where it is one of a type.
+fn tell_method<'tree>(
+    alloc: Global,
+    tcx: &'tree TypeContext,
+    id: &CallableId,
+    errors: &mut ErrorStore<'tree>,
+) -> Result<(), NoMemory>
+    requires { IsSome (callable_at tcx.now.definitions id.now) }
+    ensures { IfSome (callable_at tcx.now.definitions id.now) (λ c. OnOk result
+        (errors.new ≡ added errors.old (method_errors_of tcx.now.definitions c))) }
+{
+    if is_type_method(*id) {
+        return validate_method(alloc, tcx, method_of(tcx, *id), errors);
+    }
+    Ok(())
+}
+
 /// Tells of the callable of an id, of which it is known whether it has too many leaves.
 fn tell_of<'tree>(
     alloc: Global,
@@ -129,12 +147,14 @@ fn tell_of<'tree>(
     requires counted { IfSome (callable_at tcx.now.definitions id.now)
         (λ c. is_crowded ≡ has_too_many c) }
     ensures { IfSome (callable_at tcx.now.definitions id.now) (λ c. OnOk result
-        (errors.new.reports ≡ errors.old.reports ++ callable_reports_of c)) }
+        (errors.new.reports ≡ errors.old.reports
+        ++ callable_reports_of tcx.now.definitions c)) }
 {
     let is_elided = elides(tcx, id);
     go_to(place_of(tcx, *id), errors);
     tell_if(alloc, is_crowded, Rule::TooManyLeaves, errors)?;
-    tell_if(alloc, is_elided, Rule::ElidedReturn, errors)
+    tell_if(alloc, is_elided, Rule::ElidedReturn, errors)?;
+    tell_method(alloc, tcx, id, errors)
 }
 
 /// Tells of each callable.
@@ -149,7 +169,7 @@ fn tell_each<'tree>(
     requires all { map (callable_at tcx.now.definitions) ids.now
         ≡ map Some (callables tcx.now.definitions) }
     ensures { OnOk result (errors.new.reports
-        ≡ errors.old.reports ++ callable_reports (callables tcx.now.definitions)) }
+        ≡ errors.old.reports ++ callable_reports tcx.now.definitions) }
 {
     for (number, id) in ids.iter().enumerate() {
         tell_of(alloc, tcx, flags[number], id, errors)?;
@@ -160,8 +180,7 @@ fn tell_each<'tree>(
 /// The reports of the callables of a context that break a rule, in the order of the callables.
 /// `NoMemory` where there is none.
 pub fn callable_reports(alloc: Global, tcx: &TypeContext) -> Result<Vec<LoweringReport>, NoMemory>
-    ensures { IfOk result
-        (λ told. told.items ≡ callable_reports (callables tcx.now.definitions)) }
+    ensures { IfOk result (λ told. told.items ≡ callable_reports tcx.now.definitions) }
 {
     let flags = with_too_many_leaves(alloc, tcx)?;
     let ids = callable_ids(alloc, tcx)?;

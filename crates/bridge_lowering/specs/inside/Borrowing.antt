@@ -11,10 +11,10 @@ use Rattle.hir_lower.specs.declared.fault.LowerFault.TheVariants as fault
 -- none breaks a rule, and this is the report of all
 pub record IsReportIn (defs : Definitions) (report : BridgeReport) : Type 0 where
   pub context : report.tcx.definitions ≡ defs
-  pub unbroken : callable_reports (callables defs) ≡ []
+  pub unbroken : callable_reports defs ≡ []
   pub reported : AreReported (callables defs) report.callables
 
 abbrev pub BorrowsIn : Definitions → Result BridgeReport LowerFault → Type 0
 BorrowsIn defs (Ok report) = IsReportIn defs report
-BorrowsIn defs (Err (fault.Refused told)) = (told.items ≡ callable_reports (callables defs)) × (told.items ≢ [])
+BorrowsIn defs (Err (fault.Refused told)) = (told.items ≡ callable_reports defs) × (told.items ≢ [])
 BorrowsIn defs (Err fault.NoMemory) = ⊤

@@ -5,7 +5,7 @@ use super::program::runs_to;
 use std::alloc::{AllocError, Global};
 
 /// Root modules that break no rule, with their pages.
-const ACCEPTED: [(&str, &str); 16] = [
+const ACCEPTED: [(&str, &str); 19] = [
     // fn f<'a, 'b: 'a>(x: &'a O, y: &'b O) -> &'a O
     (
         r#"{"items":[{"kind":"opaque","name":"O"},{"kind":"function","name":"f","lifetimes":[{"name":"a","longer":[1]},{"name":"b","shorter":[0]}],"params":[{"name":"x","ty":{"ref":{"lifetime":"a","to":{"named":{"segments":["O"]}}}}},{"name":"y","ty":{"ref":{"lifetime":"b","to":{"named":{"segments":["O"]}}}}}],"ret":{"ref":{"lifetime":"a","to":{"named":{"segments":["O"]}}}}}]}"#,
@@ -87,10 +87,25 @@ const ACCEPTED: [(&str, &str); 16] = [
         r#"{"items":[{"kind":"opaque","name":"O","methods":[{"name":"m","self_type":{"segments":["O"]},"params":[{"name":"x","ty":{"ref":{"lifetime":"_","to":{"named":{"segments":["O"]}}}}}],"ret":{"ref":{"lifetime":"_","to":{"named":{"segments":["O"]}}}},"attrs":{"marks":[{"if":"*","mark":["disable"]}]}}]}]}"#,
         "ok 0\n",
     ),
+    // opaque Foo<'a, 'b: 'a, 'c: 'b>, O::use_foo<'x, 'y: 'x, 'z: 'y>(&self, foo: &Foo<'x, 'y, 'z>): the bounds that `Foo` implies are declared.
+    (
+        r#"{"items":[{"kind":"opaque","name":"Foo","lifetimes":[{"name":"a","longer":[1]},{"name":"b","longer":[2],"shorter":[0]},{"name":"c","shorter":[1]}]},{"kind":"opaque","name":"O","methods":[{"name":"use_foo","self_type":{"segments":["O"]},"self":{"reference":{"lifetime":"_"},"path":{"segments":["O"]}},"lifetimes":[{"name":"x","longer":[1]},{"name":"y","longer":[2],"shorter":[0]},{"name":"z","shorter":[1]}],"params":[{"name":"foo","ty":{"ref":{"lifetime":"_","to":{"named":{"segments":["Foo"],"lifetimes":["x","y","z"]}}}}}]}]}]}"#,
+        "callable O::use_foo\nok 1\n",
+    ),
+    // Foo::borrows_opaque_slice<'a>(&'a self, op: &'a [&'a Foo]) returns nothing.
+    (
+        r#"{"items":[{"kind":"opaque","name":"Foo","methods":[{"name":"borrows_opaque_slice","self_type":{"segments":["Foo"]},"self":{"reference":{"lifetime":"a"},"path":{"segments":["Foo"]}},"lifetimes":[{"name":"a"}],"params":[{"name":"op","ty":{"custom_slice":{"lifetime":"a","of":{"ref":{"lifetime":"a","to":{"named":{"segments":["Foo"]}}}}}}}]}]}]}"#,
+        "callable Foo::borrows_opaque_slice\nok 1\n",
+    ),
+    // struct S { x: u8 }, fn g<'a>(s: &'a S) -> &'a O: functions may return such a lifetime.
+    (
+        r#"{"items":[{"kind":"opaque","name":"O"},{"kind":"struct","name":"S","fields":[{"name":"x","ty":"u8"}]},{"kind":"function","name":"g","lifetimes":[{"name":"a"}],"params":[{"name":"s","ty":{"ref":{"lifetime":"a","to":{"named":{"segments":["S"]}}}}}],"ret":{"ref":{"lifetime":"a","to":{"named":{"segments":["O"]}}}}}]}"#,
+        "callable g\n  lifetime 0 a:\n  edges:\nok 1\n",
+    ),
 ];
 
 /// Root modules that break one, with the flags of the backend and the reports.
-const REFUSED: [(&str, &str, &str); 23] = [
+const REFUSED: [(&str, &str, &str); 30] = [
     // fn f<'a>(x: &'a O, y: &'a O) -> &O
     (
         r#"{"items":[{"kind":"opaque","name":"O"},{"kind":"function","name":"f","lifetimes":[{"name":"a"}],"params":[{"name":"x","ty":{"ref":{"lifetime":"a","to":{"named":{"segments":["O"]}}}}},{"name":"y","ty":{"ref":{"lifetime":"a","to":{"named":{"segments":["O"]}}}}}],"ret":{"ref":{"lifetime":"_","to":{"named":{"segments":["O"]}}}}}]}"#,
@@ -228,6 +243,48 @@ const REFUSED: [(&str, &str, &str); 23] = [
         r#"{"items":[{"kind":"opaque","name":"O","methods":[{"name":"m","self_type":{"segments":["O"]},"self":{"reference":{"lifetime":"_"},"path":{"segments":["O"]}},"ret":{"ref":{"lifetime":"_","to":{"named":{"segments":["O"]}}}}}]},{"kind":"struct","name":"S","fields":[{"name":"x","ty":"u8"}],"methods":[{"name":"n","self_type":{"segments":["S"]},"params":[{"name":"x","ty":{"ref":{"lifetime":"_","to":{"named":{"segments":["O"]}}}}}],"ret":{"ref":{"lifetime":"_","to":{"named":{"segments":["O"]}}}}}]}]}"#,
         USUAL,
         "Lowering error in S::n\n  ElidedReturn: Found elided lifetime in return type, please explicitly specify\nLowering error in O::m\n  ElidedReturn: Found elided lifetime in return type, please explicitly specify\nrefused 2\n",
+    ),
+    // opaque Foo<'a, 'b: 'a, 'c: 'b>, O::use_foo<'x, 'y, 'z>(&self, foo: &Foo<'x, 'y, 'z>)
+    (
+        r#"{"items":[{"kind":"opaque","name":"Foo","lifetimes":[{"name":"a","longer":[1]},{"name":"b","longer":[2],"shorter":[0]},{"name":"c","shorter":[1]}]},{"kind":"opaque","name":"O","methods":[{"name":"use_foo","self_type":{"segments":["O"]},"self":{"reference":{"lifetime":"_"},"path":{"segments":["O"]}},"lifetimes":[{"name":"x"},{"name":"y"},{"name":"z"}],"params":[{"name":"foo","ty":{"ref":{"lifetime":"_","to":{"named":{"segments":["Foo"],"lifetimes":["x","y","z"]}}}}}]}]}]}"#,
+        USUAL,
+        "Lowering error in O::use_foo\n  ImpliedBound: Method should explicitly include this lifetime bound from param foo: 'y: 'x (comes from source type's 'b: 'a)\nLowering error in O::use_foo\n  ImpliedBound: Method should explicitly include this lifetime bound from param foo: 'z: 'y (comes from source type's 'c: 'b)\nrefused 2\n",
+    ),
+    // opaque Foo<'a, 'b: 'a>, O::m<'x>(&self, foo: &Foo<'x, '_>): the third anonymous lifetime has to outlive 'x.
+    (
+        r#"{"items":[{"kind":"opaque","name":"Foo","lifetimes":[{"name":"a","longer":[1]},{"name":"b","shorter":[0]}]},{"kind":"opaque","name":"O","methods":[{"name":"m","self_type":{"segments":["O"]},"self":{"reference":{"lifetime":"_"},"path":{"segments":["O"]}},"lifetimes":[{"name":"x"}],"params":[{"name":"foo","ty":{"ref":{"lifetime":"_","to":{"named":{"segments":["Foo"],"lifetimes":["x","_"]}}}}}]}]}]}"#,
+        USUAL,
+        "Lowering error in O::m\n  ImpliedBound: Method should explicitly include this lifetime bound from param foo: 'anon_2: 'x (comes from source type's 'b: 'a)\nrefused 1\n",
+    ),
+    // opaque Page<'p>, O::open<'a, 'p>(of: &'a Page<'p>)
+    (
+        r#"{"items":[{"kind":"opaque","name":"Page","lifetimes":[{"name":"p"}]},{"kind":"opaque","name":"O","methods":[{"name":"open","self_type":{"segments":["O"]},"lifetimes":[{"name":"a"},{"name":"p"}],"params":[{"name":"of","ty":{"ref":{"lifetime":"a","to":{"named":{"segments":["Page"],"lifetimes":["p"]}}}}}]}]}]}"#,
+        USUAL,
+        "Lowering error in O::open\n  ImpliedBound: Method should explicitly include this lifetime bound from param of: 'p: 'a (comes from &-ref's lifetime in parameter)\nrefused 1\n",
+    ),
+    // opaque Page<'p>, O::open<'a, 'p>(&'a self) -> &'a Page<'p>
+    (
+        r#"{"items":[{"kind":"opaque","name":"Page","lifetimes":[{"name":"p"}]},{"kind":"opaque","name":"O","methods":[{"name":"open","self_type":{"segments":["O"]},"self":{"reference":{"lifetime":"a"},"path":{"segments":["O"]}},"lifetimes":[{"name":"a"},{"name":"p"}],"ret":{"ref":{"lifetime":"a","to":{"named":{"segments":["Page"],"lifetimes":["p"]}}}}}]}]}"#,
+        USUAL,
+        "Lowering error in O::open\n  ImpliedBound: Method should explicitly include this lifetime bound from return type: 'p: 'a (comes from &-ref's lifetime in parameter)\nrefused 1\n",
+    ),
+    // struct S { x: u8 }, O::g<'a>(s: &'a S) -> &'a O
+    (
+        r#"{"items":[{"kind":"opaque","name":"O","methods":[{"name":"g","self_type":{"segments":["O"]},"lifetimes":[{"name":"a"}],"params":[{"name":"s","ty":{"ref":{"lifetime":"a","to":{"named":{"segments":["S"]}}}}}],"ret":{"ref":{"lifetime":"a","to":{"named":{"segments":["O"]}}}}}]},{"kind":"struct","name":"S","fields":[{"name":"x","ty":"u8"}]}]}"#,
+        USUAL,
+        "Lowering error in O::g\n  StructRefReturned: Found lifetimes used in struct references also used in the return type: 'a\nrefused 1\n",
+    ),
+    // struct S { x: u8 }, S::own<'a>(&'a self) -> &'a O
+    (
+        r#"{"items":[{"kind":"opaque","name":"O"},{"kind":"struct","name":"S","fields":[{"name":"x","ty":"u8"}],"methods":[{"name":"own","self_type":{"segments":["S"]},"self":{"reference":{"lifetime":"a"},"path":{"segments":["S"]}},"lifetimes":[{"name":"a"}],"ret":{"ref":{"lifetime":"a","to":{"named":{"segments":["O"]}}}}}]}]}"#,
+        USUAL,
+        "Lowering error in S::own\n  StructRefReturned: Found lifetimes used in struct references also used in the return type: 'a\nrefused 1\n",
+    ),
+    // Foo::borrows_opaque_slice<'a>(&'a self, op: &'a [&'a Foo]) -> &'a Self: the lifetime is told once.
+    (
+        r#"{"items":[{"kind":"opaque","name":"Foo","methods":[{"name":"borrows_opaque_slice","self_type":{"segments":["Foo"]},"self":{"reference":{"lifetime":"a"},"path":{"segments":["Foo"]}},"lifetimes":[{"name":"a"}],"params":[{"name":"op","ty":{"custom_slice":{"lifetime":"a","of":{"ref":{"lifetime":"a","to":{"named":{"segments":["Foo"]}}}}}}}],"ret":{"ref":{"lifetime":"a","to":{"self":{"segments":["Foo"]}}}}}]}]}"#,
+        USUAL,
+        "Lowering error in Foo::borrows_opaque_slice\n  OpaqueSliceBorrowed: Opaque slices (param op) cannot be borrowed from: 'a\nrefused 1\n",
     ),
 ];
 
