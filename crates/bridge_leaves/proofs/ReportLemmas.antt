@@ -1,19 +1,15 @@
--- Counts of inputs, and callables one after another.
-use Rattle.std.proofs.Common.{◌≡◌, ◌<◌, ◌≤◌, ◌+◌, inl, inr, ℕ, zero, suc, List, [], ◌∷◌, ◌++◌, length, get_or, take, map, Bool, Option, Some, None, Ok, Err, Result, slice_get, refl, sym, ap, subst, ◌∙◌, arith, append_assoc}
-use Rattle.std.specs.Prelude.{◌⊎◌, IfOk, IfSome, min}
+-- Counts of structs and of inputs.
+use Rattle.std.proofs.Common.{◌≡◌, ◌<◌, ◌≤◌, ◌+◌, inl, inr, ℕ, zero, suc, List, [], ◌∷◌, ◌++◌, length, get_or, Option, Some, None, Ok, Err, Result, slice_get, refl, sym, ap, subst, ◌∙◌, arith}
+use Rattle.std.specs.Prelude.{◌⊎◌, IfOk, min}
 use Rattle.std.proofs.Math.Nat.{min-eq_left, min-eq_right}
 use Rattle.std.specs.List.{sum_by}
-use Rattle.std.proofs.lemmas.Option.{get_or_from_slice_get, slice_get_read, slice_get_within}
+use Rattle.std.proofs.lemmas.Option.{slice_get_within}
 use Rattle.bridge_leaves.specs.inside.Counting.{all_own, graph_of, most_counted}
 use Rattle.bridge_leaves.specs.inside.Totals.{AreCounts, CountsInputs, CountsType}
 use Rattle.bridge_leaves.proofs.ChainLemmas.{totals_count}
 use Rattle.hir_skeleton.proofs.Containment.{context_well}
 use Rattle.bridge_leaves.proofs.CountLemmas.{fields_length, none_without, one_alone}
-use Rattle.bridge_leaves.proofs.RowLemmas.{map_next, sum_more}
-use Rattle.bridge_report.proofs.Listed.{listed_callable}
-use Rattle.bridge_report.specs.InContext.{callable_at, callables}
-use Rattle.bridge_leaves.specs.Limits.{has_too_many}
-use Rattle.bridge_report.specs.declared.report.CallableId.{CallableId}
+use Rattle.bridge_leaves.proofs.RowLemmas.{sum_more}
 use Rattle.definition_graph.specs.Reaching.{IsGraph}
 use Rattle.definition_graph.specs.Surveying.{AreDepths}
 use Rattle.definition_graph.specs.Totals.{AreTotals}
@@ -110,17 +106,3 @@ pub method_count : (defs : Definitions) (m : Method) (n : ℕ) → CountsInputs 
 method_count defs m n is =
     is (identity m.lifetime_env.count)
     ∙ ap (min most_counted) (sym (fields_length in_field (input_leaves (fields_in defs) m.lifetime_env.count) 0 (method_inputs m)))
-
--- ---- callables
-
-module _ (defs : Definitions) (ids : List CallableId) (all : map (callable_at defs) ids ≡ map Some (callables defs)) where
-  pub flagged_next : (n : ℕ) (id : CallableId) (flag : Bool) (start old new : List Bool) → n < length ids → id ≡ get_or ids n id
-      → old ≡ start ++ map has_too_many (take n (callables defs)) → IfSome (callable_at defs id) (λ c. flag ≡ has_too_many c) → new ≡ old ++ flag ∷ []
-      → new ≡ start ++ map has_too_many (take (n + 1) (callables defs))
-  flagged_next n id flag start old new within is so_far tells pushed =
-      let w = listed_callable defs ids all n id (slice_get_read ids (length ids) n id refl within is) in
-      let right : flag ≡ has_too_many w.0 = subst (λ o. IfSome o (λ c. flag ≡ has_too_many c)) w.2 tells in
-      let there = slice_get_within (callables defs) n w.0 w.1 in
-      pushed ∙ ap (λ b. old ++ b ∷ []) right ∙ ap (λ r. r ++ has_too_many w.0 ∷ []) so_far
-      ∙ append_assoc start (map has_too_many (take n (callables defs))) (has_too_many w.0 ∷ [])
-      ∙ ap (λ r. start ++ r) (map_next has_too_many (callables defs) n w.0 there (sym (get_or_from_slice_get (callables defs) n w.0 w.0 w.1)))

@@ -11,10 +11,11 @@
 //! ```
 //!
 //! `Pair` has two leaves and `Four` has four, and twenty such steps come to 2^20. So no list of leaves is made before it is known to be short.
-//! [`with_too_many_leaves`] counts them: the structs of a context are a graph (`graph`), in which an edge leads from each to those that its fields are,
+//! [`LeafCounts`] counts them: the structs of a context are a graph (`graph`), in which an edge leads from each to those that its fields are,
 //! and each has so many leaves of its own. What a struct holds is a sum over what it leads to, and each struct is gone through once, after
-//! all that it leads to (`definition_graph`). Sums end one past what a callable may have (`counts`). It says of each callable whether its
-//! inputs have more leaves than 2^20 (`limits`). Such a callable breaks the rule `TooManyLeaves`, which `bridge_validation` tells.
+//! all that it leads to (`definition_graph`). Sums end one past what a callable may have (`counts`). Then [`LeafCounts::has_too_many`] says of
+//! a callable whether its inputs have more leaves than 2^20 (`limits`). Such a callable breaks the rule `TooManyLeaves`, which
+//! `bridge_validation` tells.
 //!
 //! The limit is this repository's own: the crate `diplomat_core` knows none.
 #![tactic(auto)]
@@ -23,4 +24,4 @@ mod counts;
 mod graph;
 mod limits;
 
-pub use limits::with_too_many_leaves;
+pub use limits::LeafCounts;

@@ -1,5 +1,5 @@
 -- From what a context is, and what its callables may borrow, to what declarations are answered with.
-use Rattle.std.proofs.Common.{◌≡◌, ◌≢◌, List, [], ◌∷◌, Result, Ok, Err, refl, sym, ap, subst, ◌∙◌, arith, inl, inr}
+use Rattle.std.proofs.Common.{◌≡◌, ◌≢◌, Bool, List, [], ◌∷◌, Result, Ok, Err, refl, sym, ap, subst, ◌∙◌, arith, inl, inr}
 use Rattle.std.specs.List.{Contains}
 use Rattle.bridge_callables.specs.Declared.{declared_callables}
 use Rattle.bridge_decl.specs.declared.modules.Module.{Module}
@@ -9,8 +9,8 @@ use Rattle.bridge_report.specs.Borrowings.{AreReported}
 use Rattle.bridge_report.specs.InContext.{callables}
 use Rattle.bridge_report.specs.declared.report.BridgeReport.{BridgeReport}
 use Rattle.bridge_telling.specs.Telling.{TellsExactly}
-use Rattle.bridge_validation.specs.CallablesBreak.{CallablesBreak}
-use Rattle.bridge_validation.specs.Told.{callable_reports}
+use Rattle.bridge_validation.specs.LoweredContextBreaks.{LoweredContextBreaks}
+use Rattle.bridge_validation.specs.Told.{context_reports}
 use Rattle.hir_backends.specs.Backend.{Backend}
 use Rattle.hir_config.specs.declared.config.LoweringConfig.{LoweringConfig}
 use Rattle.hir_context.specs.declared.context.TypeContext.{TypeContext}
@@ -37,9 +37,9 @@ OneCatalog = (modules : List Module) (one other : Catalog) → IsCatalog modules
 abbrev pub ReadAlike : Type 0
 ReadAlike = (it : Interface) (defs : Definitions) → IsCatalog it.modules it.catalog → StandForItems it defs → callables defs ≡ declared_callables it
 
--- what is told of callables is what breaks a rule
+-- what is told of a context is what breaks a rule in it
 abbrev pub ToldByRules : Type 0
-ToldByRules = (defs : Definitions) → TellsExactly (callable_reports defs) (CallablesBreak defs)
+ToldByRules = (must_fail : Bool) (defs : Definitions) → TellsExactly (context_reports must_fail defs) (LoweredContextBreaks must_fail defs)
 
 first_stands : {A : Type 0} (xs : List A) → xs ≢ [] → (x : A) × Contains xs x
 first_stands [] some = absurd (some refl)
@@ -54,6 +54,10 @@ module _ (one_catalog : OneCatalog) (by_rules : ToldByRules) (modules : List Mod
   abbrev it : Interface
   it = interface_of modules backend config (naming_of modules) catalog
 
+  -- whether callbacks must be able to fail
+  abbrev must_fail : Bool
+  must_fail = backend.supports.callback_returns_must_be_fallible
+
   abbrev Breaks : LoweringReport → Type 0
   Breaks = Break modules backend config
 
@@ -66,16 +70,16 @@ module _ (one_catalog : OneCatalog) (by_rules : ToldByRules) (modules : List Mod
   breaks_here : (r : LoweringReport) → BreaksRule it r → Breaks r
   breaks_here r b = record { catalog = catalog; is = is; holds = b }
 
-  -- what callables break is broken by those of any context that stands for the declarations, since there is one
-  breaks_in : (defs : Definitions) → StandForItems it defs → (r : LoweringReport) → LoweredBreak it r → Contains (callable_reports defs) r
+  -- what a context breaks is broken by any that stands for the declarations, since there is one
+  breaks_in : (defs : Definitions) → StandForItems it defs → (r : LoweringReport) → LoweredBreak it r → Contains (context_reports must_fail defs) r
   breaks_in defs stand r b =
-      (by_rules defs r).1 (subst (λ (d : Definitions). CallablesBreak d r) (one_context it b.definitions defs b.stand stand) b.breaks)
+      (by_rules must_fail defs r).1 (subst (λ (d : Definitions). LoweredContextBreaks must_fail d r) (one_context it b.definitions defs b.stand stand) b.breaks)
 
   -- nothing is
-  no_rule : (defs : Definitions) → StandForItems it defs → ((r : LoweringReport) → ¬ (IsBroken it r)) → callable_reports defs ≡ [] → BreakNothing modules backend config
+  no_rule : (defs : Definitions) → StandForItems it defs → ((r : LoweringReport) → ¬ (IsBroken it r)) → context_reports must_fail defs ≡ [] → BreakNothing modules backend config
   no_rule defs stand unbroken quiet r b = elim (broken_here r b) [
     | inl l ↦ unbroken r l
-    | inr m ↦ none_stands (callable_reports defs) r quiet (breaks_in defs stand r m.1)
+    | inr m ↦ none_stands (context_reports must_fail defs) r quiet (breaks_in defs stand r m.1)
   ]
 
   -- what is told while declarations are lowered
@@ -92,14 +96,14 @@ module _ (one_catalog : OneCatalog) (by_rules : ToldByRules) (modules : List Mod
     ordered = record { catalog = catalog; is = is; holds = inl t.ordered };
   }
 
-  -- what is told of callables
-  refused_callables : (defs : Definitions) → StandForItems it defs → (told : List LoweringReport) → ((r : LoweringReport) → ¬ (IsBroken it r)) → told ≡ callable_reports defs
+  -- what is told of the context
+  refused_context : (defs : Definitions) → StandForItems it defs → (told : List LoweringReport) → ((r : LoweringReport) → ¬ (IsBroken it r)) → told ≡ context_reports must_fail defs
       → told ≢ [] → AreRefusedWith modules backend config told
-  refused_callables defs stand told unbroken e some = record {
+  refused_context defs stand told unbroken e some = record {
     some = some;
     broken = record {
       each = λ r h.
-          breaks_here r (inr (unbroken, record { definitions = defs; stand = stand; breaks = (by_rules defs r).0 (subst (λ rs. Contains rs r) e h) }));
+          breaks_here r (inr (unbroken, record { definitions = defs; stand = stand; breaks = (by_rules must_fail defs r).0 (subst (λ rs. Contains rs r) e h) }));
       every = λ r b. elim (broken_here r b) [
         | inl l ↦ absurd (unbroken r l)
         | inr m ↦ (r, (subst (λ rs. Contains rs r) (sym e) (breaks_in defs stand r m.1), refl))
@@ -112,7 +116,7 @@ module _ (one_catalog : OneCatalog) (by_rules : ToldByRules) (modules : List Mod
     same : callables defs ≡ declared_callables it
     same = read_alike it defs is stood.stand
 
-    pub answered_in : (result : Result BridgeReport LowerFault) → BorrowsIn defs result → AnswersReport modules backend config result
+    pub answered_in : (result : Result BridgeReport LowerFault) → BorrowsIn must_fail defs result → AnswersReport modules backend config result
     answered_in (Ok report) b = record {
       unbroken = no_rule defs stood.stand stood.unbroken b.unbroken;
       borrowed = record {
@@ -125,7 +129,7 @@ module _ (one_catalog : OneCatalog) (by_rules : ToldByRules) (modules : List Mod
         };
       };
     }
-    answered_in (Err (fault.Refused told)) b = refused_callables defs stood.stand told.items stood.unbroken b.0 b.1
+    answered_in (Err (fault.Refused told)) b = refused_context defs stood.stand told.items stood.unbroken b.0 b.1
     answered_in (Err fault.NoMemory) b = tt
 
 -- declarations in which a rule is broken while they are lowered
@@ -136,6 +140,6 @@ refused_with one rules modules backend config fault.NoMemory h = tt
 
 -- and those that have a context
 pub answered_with : OneCatalog → ToldByRules → ReadAlike → (modules : List Module) (backend : Backend) (config : LoweringConfig) (tcx : TypeContext)
-    → AnswersDeclarations modules backend config (Ok tcx) → (result : Result BridgeReport LowerFault) → BorrowsIn tcx.definitions result
+    → AnswersDeclarations modules backend config (Ok tcx) → (result : Result BridgeReport LowerFault) → BorrowsIn backend.supports.callback_returns_must_be_fallible tcx.definitions result
     → AnswersReport modules backend config result
 answered_with one rules alike modules backend config tcx h result b = answered_in one rules modules backend config h.catalog h.is alike tcx.definitions h.holds result b

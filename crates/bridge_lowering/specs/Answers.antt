@@ -8,7 +8,7 @@ use Rattle.bridge_report.specs.InContext.{callables}
 use Rattle.bridge_report.specs.Page.{IsPage}
 use Rattle.bridge_report.specs.declared.report.BridgeReport.{BridgeReport}
 use Rattle.bridge_telling.specs.Telling.{TellsPlaces}
-use Rattle.bridge_validation.specs.Told.{callable_reports}
+use Rattle.bridge_validation.specs.Told.{context_reports}
 use Rattle.hir_backends.specs.Backend.{Backend}
 use Rattle.hir_config.specs.declared.config.LoweringConfig.{LoweringConfig}
 use Rattle.hir_context.specs.declared.parts.Definitions.{Definitions}
@@ -27,15 +27,15 @@ pub record AreBorrowed (it : Interface) (report : BridgeReport) : Type 0 where
   pub same : callables report.tcx.definitions ≡ declared_callables it
   pub reported : AreReported (declared_callables it) report.callables
 
--- those of the callables of the context that stands for the declarations
-pub record AreOfCallables (it : Interface) (told : List LoweringReport) : Type 0 where
+-- those of types, traits and functions of the context that stands for the declarations
+pub record AreOfContext (it : Interface) (told : List LoweringReport) : Type 0 where
   pub definitions : Definitions
   pub stand : StandForItems it definitions
-  pub is : told ≡ callable_reports definitions
+  pub is : told ≡ context_reports it.backend.supports.callback_returns_must_be_fallible definitions
 
--- they come in order: those of modules and then those of items, kind by kind; or those of callables
+-- they come in order: those of modules and then those of items, kind by kind; or those of types, traits and functions
 abbrev pub AreInOrder : Interface → List LoweringReport → Type 0
-AreInOrder it told = IsRefusal it told ⊎ AreOfCallables it told
+AreInOrder it told = IsRefusal it told ⊎ AreOfContext it told
 
 -- what is told of declarations that break a rule: each report tells one that is broken, at its place; and each place at which one is has a
 -- report

@@ -1,8 +1,8 @@
 -- What is broken in declarations, in all phases: while they are lowered and in how their structs nest (`IsBroken` of `hir_rules`); and, where
--- nothing is, by the callables of the context that stands for them (`CallablesBreak` of `bridge_validation`).
+-- nothing is, by the types, the traits and the functions of the context that stands for them (`LoweredContextBreaks` of `bridge_validation`).
 use Rattle.std.specs.Prelude.{◌⊎◌, List}
 use Rattle.bridge_decl.specs.declared.modules.Module.{Module}
-use Rattle.bridge_validation.specs.CallablesBreak.{CallablesBreak}
+use Rattle.bridge_validation.specs.LoweredContextBreaks.{LoweredContextBreaks}
 use Rattle.hir_backends.specs.Backend.{Backend}
 use Rattle.hir_config.specs.declared.config.LoweringConfig.{LoweringConfig}
 use Rattle.hir_context.specs.declared.parts.Definitions.{Definitions}
@@ -13,11 +13,11 @@ use Rattle.hir_naming.specs.Meaning.{naming_of}
 use Rattle.hir_reports.specs.declared.report.LoweringReport.{LoweringReport}
 use Rattle.hir_rules.specs.Broken.{IsBroken}
 
--- a callable of the definitions that stand for the declarations breaks a rule there: there is one context that does
+-- a type, a trait or a function of the definitions that stand for the declarations breaks a rule there: there is one context that does
 pub record LoweredBreak (it : Interface) (report : LoweringReport) : Type 0 where
   pub definitions : Definitions
   pub stand : StandForItems it definitions
-  pub breaks : CallablesBreak definitions report
+  pub breaks : LoweredContextBreaks it.backend.supports.callback_returns_must_be_fallible definitions report
 
 -- a rule is broken there, with these arguments
 abbrev pub BreaksRule : Interface → LoweringReport → Type 0

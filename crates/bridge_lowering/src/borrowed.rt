@@ -1,26 +1,26 @@
 //! Declarations lowered, with what the results of their callables may borrow.
 
-ghost use Rattle.std.specs.Prelude.{◌≡◌, []};
+ghost use Rattle.std.specs.Prelude.{◌≡◌, [], Bool};
 ghost use Rattle.bridge_lowering.specs.Answers.{AnswersReport};
 ghost use Rattle.bridge_lowering.specs.inside.Borrowing.{BorrowsIn};
-ghost use Rattle.bridge_validation.specs.Told.{callable_reports};
+ghost use Rattle.bridge_validation.specs.Told.{context_reports};
 
 use bridge_ast::Env;
 use bridge_borrow::borrowings;
 use bridge_callables::callables_are_read_as_declared;
 use bridge_catalogs::modules_have_one_catalog;
 use bridge_report::BridgeReport;
-use bridge_validation::{callable_reports, callables_are_told_by_their_rules};
+use bridge_validation::{context_reports, lowered_contexts_are_told_by_their_rules};
 use hir_backends::AttributeValidator;
 use hir_config::LoweringConfig;
 use hir_context::TypeContext;
 use hir_lower::{FromEnv, LowerFault};
 use std::alloc::Global;
 
-/// What the results of the callables of a context may borrow.
+/// What the results of the callables of a context may borrow, where nothing in it breaks a rule.
 fn report_of(alloc: Global, tcx: TypeContext) -> Result<BridgeReport, LowerFault>
-    requires { callable_reports tcx.definitions ≡ [] }
-    ensures { BorrowsIn tcx.definitions result }
+    ensures { (must_fail : Bool) → context_reports must_fail tcx.definitions ≡ []
+        → BorrowsIn must_fail tcx.definitions result }
 {
     match borrowings(alloc, &tcx) {
         Ok(callables) => Ok(BridgeReport { tcx, callables }),
@@ -28,11 +28,15 @@ fn report_of(alloc: Global, tcx: TypeContext) -> Result<BridgeReport, LowerFault
     }
 }
 
-/// The same, where none breaks a rule; else those that do are told.
-fn borrow_in(alloc: Global, tcx: TypeContext) -> Result<BridgeReport, LowerFault>
-    ensures { BorrowsIn tcx.definitions result }
+/// The same, where nothing breaks a rule, for a backend whose callbacks must be able to fail, or may not; else what does is told.
+fn borrow_in(
+    alloc: Global,
+    tcx: TypeContext,
+    callbacks_must_fail: bool,
+) -> Result<BridgeReport, LowerFault>
+    ensures { BorrowsIn callbacks_must_fail tcx.definitions result }
 {
-    match callable_reports(alloc, &tcx) {
+    match context_reports(alloc, &tcx, callbacks_must_fail) {
         Ok(told) => {
             if told.is_empty() {
                 report_of(alloc, tcx)
@@ -42,6 +46,21 @@ fn borrow_in(alloc: Global, tcx: TypeContext) -> Result<BridgeReport, LowerFault
         }
         Err(_) => Err(LowerFault::NoMemory),
     }
+}
+
+/// The same for a backend, which says whether its callbacks must be able to fail.
+fn borrow_for<V: AttributeValidator>(
+    alloc: Global,
+    tcx: TypeContext,
+    validator: &V,
+) -> Result<BridgeReport, LowerFault>
+    ensures { BorrowsIn (V.meaning validator.now).supports.callback_returns_must_be_fallible
+        tcx.definitions result }
+{
+    let must_fail = validator
+        .attrs_supported()
+        .callback_returns_must_be_fallible;
+    borrow_in(alloc, tcx, must_fail)
 }
 
 /// The context of all declarations of an environment, with what the results of their callables may borrow: the methods of its types in
@@ -57,9 +76,9 @@ pub fn lower_and_borrow<V: AttributeValidator>(
 {
     callables_are_read_as_declared();
     modules_have_one_catalog();
-    callables_are_told_by_their_rules();
+    lowered_contexts_are_told_by_their_rules();
     match TypeContext::from_env(alloc, env, config, validator) {
-        Ok(tcx) => borrow_in(alloc, tcx),
+        Ok(tcx) => borrow_for(alloc, tcx, validator),
         Err(fault) => Err(fault),
     }
 }

@@ -6,8 +6,8 @@
 //! impl<'a> Page<'a> { pub fn open(book: &'a Book) -> Box<Page<'a>>; }
 //! ```
 //!
-//! [`lower_and_borrow`] makes the context of these declarations (`hir_lower`), sees that no callable breaks a rule as what it is
-//! lowered to (`bridge_validation`), and says of each callable what its result may borrow (`bridge_borrow`): of `Page::open`, under `'a`, the leaf `book`
+//! [`lower_and_borrow`] makes the context of these declarations (`hir_lower`), sees that no type, trait or function of it breaks a rule as
+//! what it is lowered to (`bridge_validation`), and says of each callable what its result may borrow (`bridge_borrow`): of `Page::open`, under `'a`, the leaf `book`
 //! with one edge to an opaque. Were `open` to take a `Book` by value, the answer would be `LowerFault::Refused` with the one report
 //! `OpaqueByValue` at `Page::open`.
 //!

@@ -26,9 +26,10 @@ use Rattle.hir_number.specs.declared.numbered.NumberedType.{out-roll-NumberedTyp
 use Rattle.hir_signatures.specs.Errors.{breach_error}
 use Rattle.bridge_measure.specs.inside.Made.{AreAsMade}
 use Rattle.bridge_measure.proofs.EmptyLemmas.{both_empty}
-use Rattle.bridge_measure.proofs.FaultLemmas.{borrowed_field, borrowed_level, struct_field, struct_level}
+use Rattle.bridge_measure.proofs.FaultLemmas.{borrowed_field, struct_field}
 use Rattle.bridge_measure.proofs.FilledLemmas.{borrowed_type, fields_filled, struct_type, types_if}
 use Rattle.bridge_measure.proofs.NameLemmas.{one_lifetime_fine, s_fine, x_fine}
+use Rattle.bridge_measure.proofs.ShapeLemmas.{borrowed_level, struct_level}
 use Rattle.bridge_measure.proofs.UseLemmas.{fields_fit, fields_if, fields_numbered, struct_if}
 
 -- what they have beside their types

@@ -54,7 +54,7 @@ unfolding flag_on
 free_functions_fine support on = ap (λ is_on. told_if (true && not is_on) (Denied flag.FreeFunctions)) on
 
 -- nothing is written through the last parameter
-nothing_written : (k : ℕ) → trailing_writer (params_of k) ≡ None
+pub nothing_written : (k : ℕ) → trailing_writer (params_of k) ≡ None
 nothing_written k = ap written_level (out_reference (Named (codes "b")) Immutable (type.Named path_to_opaque))
 
 -- the names and marks of the parameters
@@ -72,14 +72,11 @@ heading_fine backend k fits =
     both_empty (name_errors (function_name k) ++ name_errors (function_name k)) (lifetime_errors two_lifetimes)
     (both_empty (name_errors (function_name k)) (name_errors (function_name k)) (function_name_fine k fits) (function_name_fine k fits)) two_lifetimes_fine
 
-module _ (count : ℕ) (names : Naming) (catalog : Catalog) (known : AreAsMade count names catalog) (support : BackendAttrSupport) (config : LoweringConfig)
-    (k : ℕ) (within : k < count) where
-  -- ---- types
-
-  abbrev numbered : NumberedSignature
+module _ (count : ℕ) (names : Naming) (catalog : Catalog) (known : AreAsMade count names catalog) (k : ℕ) (within : k < count) where
+  abbrev pub numbered : NumberedSignature
   numbered = numbered_with (lifetimes_of count names catalog known k) (param_types k) (Some (borrowed_type (NonStatic 0)))
 
-  stage_is : function_stage names (function_numbered k) ≡ Judged numbered
+  pub stage_is : function_stage names (function_numbered k) ≡ Judged numbered
   stage_is =
       let filled = filled_function names (function_numbered k) in
       let numbers = signature_numbers two_lifetimes (function_uses names (function_numbered k)) in
@@ -89,7 +86,11 @@ module _ (count : ℕ) (names : Naming) (catalog : Catalog) (known : AreAsMade c
       ∙ ap (numbered_stage filled) (function_is_numbered count names catalog known k within)
       ∙ ap Judged (function_filled count names catalog known k within)
 
-  types_allowed : signature_faults support config catalog None numbered ≡ []
+module _ (count : ℕ) (names : Naming) (catalog : Catalog) (known : AreAsMade count names catalog) (support : BackendAttrSupport) (config : LoweringConfig)
+    (k : ℕ) (within : k < count) where
+  -- ---- types
+
+  types_allowed : signature_faults support config catalog None (numbered count names catalog known k within) ≡ []
   types_allowed =
       let faults = param_faults support config catalog in
       let output = returned_faults support catalog position.Return (borrowed_type (NonStatic 0)) in
@@ -102,7 +103,7 @@ module _ (count : ℕ) (names : Naming) (catalog : Catalog) (known : AreAsMade c
   types_fine =
       let breaches = function_breaches names (function_numbered k) in
       ap (λ written. stage_errors breaches (signature_faults support config catalog written) (function_stage names (function_numbered k))) (nothing_written k)
-      ∙ ap (stage_errors breaches (signature_faults support config catalog None)) stage_is
+      ∙ ap (stage_errors breaches (signature_faults support config catalog None)) (stage_is count names catalog known k within)
       ∙ ap (map fault_error) types_allowed
 
   -- ---- the whole

@@ -1,11 +1,11 @@
 -- The leaves of the made functions: one for each struct of the nest of the first parameter, and the second parameter. A leaf carries one
 -- lifetime: the first ones `'a`, and the last one `'b`.
-use Rattle.std.proofs.Common.{◌≡◌, ℕ, zero, suc, ◌+◌, ◌-◌, ◌%◌, ◌<◌, ◌≤◌, List, [], ◌∷◌, ◌++◌, length, map, Bool, true, false, Some, refl, sym, ap, subst, ◌∙◌, arith, inl, inr, length-append}
+use Rattle.std.proofs.Common.{◌≡◌, ℕ, zero, suc, ◌+◌, ◌-◌, ◌%◌, ◌<◌, ◌≤◌, List, [], ◌∷◌, ◌++◌, length, map, Bool, true, false, Some, refl, sym, subst, ◌∙◌, arith, inl, inr, length-append}
 use Rattle.std.specs.Prelude.{◌⊎◌, ◌==◌}
-use Rattle.std.specs.List.{All, Contains, range_with_len}
+use Rattle.std.specs.List.{All, range_with_len}
 use Rattle.std.proofs.lemmas.Bool.{eqb-true}
 use Rattle.std.proofs.lemmas.List.{length-map}
-use Rattle.std.proofs.lemmas.List.Elements.{All-append, All-cons, All-contains, All-map, All-nil}
+use Rattle.std.proofs.lemmas.List.Elements.{All-append, All-cons, All-map, All-nil}
 use Rattle.bridge_ast.specs.declared.place.ItemPlace.{ItemPlace}
 use Rattle.bridge_callables.specs.Declared.{declared_callables}
 use Rattle.bridge_decl.specs.declared.modules.Item.{Item}
@@ -14,12 +14,8 @@ use Rattle.bridge_decl.specs.declared.modules.Module.{Module}
 use Rattle.bridge_generate.specs.Generated.{function_numbered, generated_module, struct_numbered}
 use Rattle.bridge_order.specs.declared.catalog.Catalog.{Catalog}
 use Rattle.bridge_report.specs.Callables.{Callable}
-use Rattle.bridge_report.specs.InContext.{callables}
-use Rattle.bridge_validation.specs.CallablesBreak.{CallableBreaks, CallablesBreak}
-use Rattle.bridge_validation.specs.Told.{is_type_method}
 use Rattle.hir_backends.specs.Backend.{Backend}
 use Rattle.hir_config.specs.declared.config.LoweringConfig.{LoweringConfig}
-use Rattle.hir_context.specs.declared.parts.Definitions.{Definitions}
 use Rattle.hir_life.specs.Substitution.{identity}
 use Rattle.hir_life.specs.declared.maybe_static.MaybeStatic.{MaybeStatic}
 use Rattle.hir_life.specs.declared.maybe_static.MaybeStatic.TheVariants.{NonStatic}
@@ -30,8 +26,6 @@ use Rattle.hir_number.specs.Naming.{Naming}
 use Rattle.hir_readings.specs.Declared.{declared_fields}
 use Rattle.hir_readings.specs.NumberedSkeletons.{numbered_skeleton}
 use Rattle.hir_readings.specs.Readings.{declared_leaves}
-use Rattle.hir_reports.specs.declared.report.LoweringError.{LoweringError}
-use Rattle.hir_reports.specs.declared.report.LoweringReport.{LoweringReport}
 use Rattle.hir_skeleton.specs.Leaves.{DeepLeaf, deep_leaves, from_fields, in_field, struct_leaves, type_leaves}
 use Rattle.hir_skeleton.specs.NamedLeaves.{NamedLeaf}
 use Rattle.hir_skeleton.specs.Skeletons.{Skeleton, Carrier, Struct}
@@ -41,12 +35,6 @@ use Rattle.bridge_measure.proofs.CallableLemmas.{callables_are, made_callable}
 use Rattle.bridge_measure.proofs.CountLemmas.{all_below, before_in_eight, below_eight, isnt_first}
 use Rattle.bridge_measure.proofs.SignatureLemmas.{made_signature, numbered_borrow}
 use Rattle.bridge_measure.proofs.SkeletonLemmas.{fields_are, skeleton_of_borrow, skeleton_of_struct, skeletons_by}
-
--- a function with few leaves breaks no rule
-stands : (defs : Definitions) (c : Callable) (error : LoweringError) → length c.leaves ≤ 9 → is_type_method c.id ≡ false → ¬ (CallableBreaks defs c error)
-stands defs c _ few function (CallableBreaks.too_many_leaves more) = omega (arith, more, few)
-stands defs c _ few function (CallableBreaks.elided_return breaks) = let both : true ≡ false = sym (ap is_type_method breaks.is_method) ∙ function in cc
-stands defs c _ few function (CallableBreaks.as_method _ _ _ _ is _ _) = let both : true ≡ false = sym (ap is_type_method is) ∙ function in cc
 
 -- ---- leaves that carry one of the lifetimes 0 and 1 each
 
@@ -167,18 +155,10 @@ module _ (count : ℕ) (backend : Backend) (config : LoweringConfig) (names : �
         (function_found : (k : ℕ) → k < count
         → found_at (measured count) (function_place count k) ≡ Some (generated_module count, item.Function (function_numbered k)))
       where
-        -- none breaks a rule, in any context that has these
-        pub callables_stand : (defs : Definitions) → callables defs ≡ declared_callables it → (report : LoweringReport) → ¬ (CallablesBreak defs report)
-        callables_stand defs same report breaks =
+        -- none has many
+        pub few_leaves : All (λ (c : Callable). length c.leaves ≤ 9) (declared_callables it)
+        few_leaves =
             let callable : ℕ → Callable = made_callable count backend config names catalog in
-            let few : All (λ (c : Callable). length c.leaves ≤ 9) (map callable (range_with_len 0 count)) =
-            All-map (λ (c : Callable). length c.leaves ≤ 9) callable (range_with_len 0 count)
-            (all_below count (λ k. length (callable k).leaves ≤ 9) (λ k within. omega (arith, callable_has k within, below_eight k))) in
-            let functions : All (λ (c : Callable). is_type_method c.id ≡ false) (map callable (range_with_len 0 count)) =
-            All-map (λ (c : Callable). is_type_method c.id ≡ false) callable (range_with_len 0 count)
-            (all_below count (λ k. is_type_method (callable k).id ≡ false) (λ k within. refl)) in
-            let are = callables_are count backend config names catalog known found_is function_found in
-            let among = subst (λ cs. Contains cs breaks.callable) (same ∙ are) breaks.among in
-            let fits = All-contains (λ (c : Callable). length c.leaves ≤ 9) (map callable (range_with_len 0 count)) breaks.callable few among in
-            let function = All-contains (λ (c : Callable). is_type_method c.id ≡ false) (map callable (range_with_len 0 count)) breaks.callable functions among in
-            absurd (stands defs breaks.callable breaks.error fits function breaks.breaks)
+            subst (All (λ (c : Callable). length c.leaves ≤ 9)) (sym (callables_are count backend config names catalog known found_is function_found))
+            (All-map (λ (c : Callable). length c.leaves ≤ 9) callable (range_with_len 0 count)
+            (all_below count (λ k. length (callable k).leaves ≤ 9) (λ k within. omega (arith, callable_has k within, below_eight k))))

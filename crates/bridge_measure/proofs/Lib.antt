@@ -14,10 +14,16 @@ pub mod NameLemmas
 pub mod EmptyLemmas
 pub mod MarkLemmas
 pub mod FilledLemmas
+pub mod ShapeLemmas
 pub mod FaultLemmas
 pub mod FieldLemmas
 pub mod FunctionLemmas
 pub mod ItemLemmas
 pub mod ReportLemmas
 pub mod BrokenLemmas
+pub mod GivenLemmas
+pub mod PlainLemmas
+pub mod FormLemmas
+pub mod LoweredLemmas
+pub mod ContextLemmas
 pub mod MeasuredLemmas

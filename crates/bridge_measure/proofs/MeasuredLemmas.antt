@@ -1,6 +1,6 @@
 -- Made declarations break no rule, and this is what their callables list.
-use Rattle.std.proofs.Common.{◌≡◌, ℕ, ◌+◌, ◌*◌, ◌%◌, ◌^◌, ◌<◌, ◌≤◌, List, [], ◌∷◌, length, true, refl, ap, ◌∙◌, arith, inl, inr}
-use Rattle.std.specs.List.{Contains, range_with_len, sum_by}
+use Rattle.std.proofs.Common.{◌≡◌, ℕ, ◌+◌, ◌*◌, ◌%◌, ◌^◌, ◌<◌, ◌≤◌, List, [], ◌∷◌, length, true, refl, sym, ap, subst, ◌∙◌, arith, inl, inr}
+use Rattle.std.specs.List.{All, Contains, range_with_len, sum_by}
 use Rattle.std.proofs.lemmas.List.FromFn.{length-map-range_with_len}
 use Rattle.bridge_callables.specs.Declared.{declared_callables}
 use Rattle.bridge_decl.specs.declared.modules.Module.{Module}
@@ -9,6 +9,7 @@ use Rattle.bridge_lowering.specs.Answers.{AreRefusedWith}
 use Rattle.bridge_lowering.specs.Broken.{BreakNothing}
 use Rattle.bridge_order.specs.declared.catalog.Catalog.{Catalog}
 use Rattle.bridge_places.specs.Entries.{IsCatalog}
+use Rattle.bridge_report.specs.Callables.{Callable}
 use Rattle.bridge_report.specs.InContext.{callables}
 use Rattle.bridge_summary.specs.Summary.{AreListed}
 use Rattle.hir_backends.specs.Backend.{Backend}
@@ -25,7 +26,8 @@ use Rattle.bridge_measure.specs.Measured.{measured, measured_backend, measured_b
 use Rattle.bridge_measure.specs.inside.Made.{AreAsMade}
 use Rattle.bridge_measure.proofs.BrokenLemmas.{nothing_broken}
 use Rattle.bridge_measure.proofs.CallableLemmas.{callables_are, made_callable}
-use Rattle.bridge_measure.proofs.LeafLemmas.{callables_stand}
+use Rattle.bridge_measure.proofs.ContextLemmas.{context_stands}
+use Rattle.bridge_measure.proofs.LeafLemmas.{few_leaves}
 use Rattle.bridge_measure.proofs.ListedLemmas.{few_listed, listed_is}
 use Rattle.bridge_measure.proofs.NestingLemmas.{nesting_stands}
 use Rattle.bridge_measure.proofs.PlaceLemmas.{found_is, function_found, meets, struct_found}
@@ -76,8 +78,10 @@ breaks_nothing every alike count backend config fits free report broken =
       | inl (inr nesting) ↦ nesting_stands count backend config (naming_of (measured count)) catalog here (found_is count) report nesting.1
       | inr lowered ↦
           let context = lowered.1 in
-          callables_stand count backend config (naming_of (measured count)) catalog here (struct_found count) (found_is count) (function_found count) context.definitions
-          (alike it context.definitions broken.is context.stand) report context.breaks
+          let same = alike it context.definitions broken.is context.stand in
+          let few = few_leaves count backend config (naming_of (measured count)) catalog here (struct_found count) (found_is count) (function_found count) in
+          context_stands count backend config (naming_of (measured count)) catalog here (found_is count) context.definitions context.stand
+          (subst (All (λ (c : Callable). length c.leaves ≤ 9)) (sym same) few) backend.supports.callback_returns_must_be_fallible report context.breaks
     ]
 
 -- what is refused breaks a rule

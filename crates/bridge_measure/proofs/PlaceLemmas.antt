@@ -137,3 +137,9 @@ module _ (count : ℕ) where
         struct_entry = λ k within.
             let e = is.entries (struct_place k) (item.Struct (struct_numbered k)) (struct_stands k within) in (id_of (entry_at catalog (struct_place k)), e.is);
       }
+
+-- each item is in the module of number 0
+pub in_root : (count : ℕ) (place : ItemPlace) (found : Item) → IsMadeAt count place found → place.«module» ≡ 0
+in_root count place found (IsMadeAt.opaque there is) = ap (λ p. p.«module») there
+in_root count place found (IsMadeAt.struct k within there is) = ap (λ p. p.«module») there
+in_root count place found (IsMadeAt.function k within there is) = ap (λ p. p.«module») there

@@ -20,6 +20,7 @@ use Rattle.bridge_measure.specs.Measured.{measured}
 use Rattle.bridge_measure.specs.inside.Made.{AreAsMade, IsMadeAt}
 use Rattle.bridge_measure.proofs.EmptyLemmas.{both_empty, each_empty}
 use Rattle.bridge_measure.proofs.ItemLemmas.{function_unreported, opaque_unreported, struct_unreported}
+use Rattle.bridge_measure.proofs.PlaceLemmas.{in_root}
 
 -- what is found at a place is one of the items that are made there, in the one module
 abbrev pub AreFound : ℕ → Type 0
@@ -81,16 +82,10 @@ module _ (count : ℕ) (fits : count < 2 ^ 64) where
   module _ (it : Interface) (made_so : it.modules ≡ measured count) (known : AreAsMade count (it.names 0) it.catalog)
       (on : it.backend.supports.free_functions ≡ true) (found : AreFound count)
     where
-      -- the module of each is that of number 0
-      in_root : (place : ItemPlace) (i : Item) → IsMadeAt count place i → place.«module» ≡ 0
-      in_root place i (IsMadeAt.opaque there is) = ap (λ p. p.«module») there
-      in_root place i (IsMadeAt.struct k within there is) = ap (λ p. p.«module») there
-      in_root place i (IsMadeAt.function k within there is) = ap (λ p. p.«module») there
-
       found_unreported : (told : ItemTelling) → TellsNothing told → (place : ItemPlace) (m : Module × Item) → IsMadeAt count place m.1
           → reports_of it told place m ≡ []
       found_unreported told nothing place m is =
-          nothing (setting_in it place.«module») (subst (λ n. AreAsMade count (it.names n) it.catalog) (sym (in_root place m.1 is)) known) on
+          nothing (setting_in it place.«module») (subst (λ n. AreAsMade count (it.names n) it.catalog) (sym (in_root count place m.1 is)) known) on
           m.0.path place (module_marks it.backend it.modules m.0) m.1 is
 
       at_place : (told : ItemTelling) → TellsNothing told → (place : ItemPlace) (o : Option (Module × Item)) → found_at (measured count) place ≡ o

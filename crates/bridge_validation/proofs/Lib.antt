@@ -1,2 +1,2 @@
-pub mod CallableLemmas
+pub mod ContextLemmas
 pub mod WalkLemmas

@@ -1,3 +1,3 @@
 pub mod rules
-pub mod CallablesBreak
 pub mod Told
+pub mod LoweredContextBreaks

@@ -1,26 +1,28 @@
-//! What is told of callables.
+//! What is told of a method of a type, or of a function.
 
-ghost use Rattle.std.specs.Prelude.{◌≡◌, ◌++◌, IfOk, IfSome, IsSome, OnOk, Some, map};
+ghost use Rattle.std.specs.Prelude.{◌≡◌, ◌++◌, ◌&&◌, [], cond, length, nat_lt, OnOk, Some};
 ghost use Rattle.std.specs.List.{list_any};
-ghost use Rattle.bridge_leaves.specs.Limits.{has_too_many};
-ghost use Rattle.bridge_report.specs.InContext.{callable_at, callables};
-ghost use Rattle.bridge_report.specs.Places.{shown_place};
+ghost use Rattle.bridge_leaves.specs.Limits.{most_leaves};
+ghost use Rattle.bridge_report.specs.InContext.{callable_of, receiver_name};
 ghost use Rattle.bridge_telling.specs.Telling.{one_if};
-ghost use Rattle.bridge_validation.specs.Told.{callable_reports, callable_reports_of, elides, is_type_method, is_unnamed, method_errors_of};
+ghost use Rattle.bridge_validation.specs.Told.{lowered_callable_errors, is_type_method, is_unnamed};
 ghost use Rattle.hir_reports.specs.Store.{added};
 ghost use Rattle.hir_reports.specs.Texts.{plain_error};
+ghost use Rattle.hir_reports.specs.declared.rule.Rule.TheVariants as rule;
+ghost use Rattle.hir_skeleton.specs.NamedLeaves.{borrowing_leaves};
 ghost use Rattle.hir_types.specs.Named.{lifetimes_in, lifetimes_named};
 ghost use Rattle.hir_types.specs.Returns.{error_of, success_of, type_in};
+ghost use Rattle.hir_validation.specs.Signatures.{signature_errors};
+ghost use Rattle.hir_validation.specs.Told.{method_rule_errors};
 
 use bridge_decl::NoMemory;
-use bridge_leaves::with_too_many_leaves;
-use bridge_report::{CallableId, CallablePlace, callable_ids, method_of, place_of};
-use hir_context::TypeContext;
+use bridge_leaves::LeafCounts;
+use bridge_report::CallableId;
 use hir_definitions::Method;
 use hir_life::{Lifetime, LifetimeEnv, MaybeStatic};
-use hir_reports::{ErrorStore, LoweringError, LoweringReport, Rule};
+use hir_reports::{ErrorStore, Rule};
 use hir_types::{OutType, OutputOnly, ReturnType};
-use hir_validation::validate_method;
+use hir_validation::{Validation, tell_if};
 use std::alloc::Global;
 
 /// Whether it is a method of a type.
@@ -82,109 +84,109 @@ fn returns_unnamed(method: &Method) -> bool
     succeeds_unnamed(env, &method.output) || fails_unnamed(env, &method.output)
 }
 
-/// Whether the callable of an id is a method that leaves out a lifetime that it returns.
-fn elides(tcx: &TypeContext, id: &CallableId) -> bool
-    requires { IsSome (callable_at tcx.now.definitions id.now) }
-    ensures { IfSome (callable_at tcx.now.definitions id.now) (λ c. result ≡ elides c) }
-{
-    is_type_method(*id) && returns_unnamed(method_of(tcx, *id))
+/// A context that is tested, with its leaves counted.
+#[derive(Drop)]
+pub(crate) struct Tested<'tcx> {
+    /// It, with its leaves.
+    pub(crate) counts: LeafCounts<'tcx>,
+    /// Whether callbacks must be able to fail.
+    pub(crate) callbacks_must_fail: bool,
 }
 
-/// Sets the store to the place of a callable.
-fn go_to<'tree>(place: CallablePlace<'tree>, errors: &mut ErrorStore<'tree>)
-    ensures { errors.new
-        ≡ record { reports = errors.old.reports; place = shown_place place.entry } }
-{
-    errors.set_module(place.module);
-    errors.set_item(place.item);
-    if let Some(method) = place.method {
-        errors.set_subitem(method);
+impl<'tcx> Tested<'tcx> {
+    /// What is asked of it.
+    pub(crate) fn validation(&self) -> Validation<'tcx>
+        ensures context { result.tcx.now ≡ self.now.counts.tcx.now }
+        ensures flag { result.callbacks_must_fail ≡ self.now.callbacks_must_fail }
+    {
+        Validation {
+            tcx: self.counts.tcx,
+            callbacks_must_fail: self.callbacks_must_fail,
+        }
     }
-}
 
-/// Tells that a rule is broken, where it is.
-fn tell_if(
-    alloc: Global,
-    is_broken: bool,
-    broken: Rule,
-    errors: &mut ErrorStore<'_>,
-) -> Result<(), NoMemory>
-    ensures { OnOk result
-        (errors.new ≡ added errors.old (one_if is_broken (plain_error broken))) }
-{
-    if is_broken {
-        return errors.push(LoweringError::plain(alloc, broken));
+    /// Tells of a method what only functions may do, where it is one of a type.
+    fn tell_method_rules(
+        &self,
+        alloc: Global,
+        id: &CallableId,
+        method: &Method,
+        errors: &mut ErrorStore<'_>,
+    ) -> Result<(), NoMemory>
+        ensures { OnOk result (errors.new ≡ added errors.old (cond (is_type_method id.now)
+            (method_rule_errors self.now.counts.tcx.now.definitions method.now) [])) }
+    {
+        if is_type_method(*id) {
+            let validation = self.validation();
+            return validation.validate_method(alloc, method, errors);
+        }
+        Ok(())
     }
-    Ok(())
-}
 
-/// Tells of the method of an id what its types break, where it is one of a type.
-fn tell_method<'tree>(
-    alloc: Global,
-    tcx: &'tree TypeContext,
-    id: &CallableId,
-    errors: &mut ErrorStore<'tree>,
-) -> Result<(), NoMemory>
-    requires { IsSome (callable_at tcx.now.definitions id.now) }
-    ensures { IfSome (callable_at tcx.now.definitions id.now) (λ c. OnOk result
-        (errors.new ≡ added errors.old (method_errors_of tcx.now.definitions c))) }
-{
-    if is_type_method(*id) {
-        return validate_method(alloc, tcx, method_of(tcx, *id), errors);
+    /// Tells of its types.
+    #[tactic(auto, using(hir_reports::proofs::StoreLaws::added_more))]
+    fn tell_signature(
+        &self,
+        alloc: Global,
+        id: &CallableId,
+        method: &Method,
+        errors: &mut ErrorStore<'_>,
+    ) -> Result<(), NoMemory>
+        ensures { OnOk result (errors.new ≡ added errors.old
+            (signature_errors self.now.callbacks_must_fail
+            self.now.counts.tcx.now.definitions method.now ++ cond (is_type_method id.now)
+            (method_rule_errors self.now.counts.tcx.now.definitions method.now) [])) }
+    {
+        let validation = self.validation();
+        validation.validate_signature(alloc, method, errors)?;
+        self.tell_method_rules(alloc, id, method, errors)
     }
-    Ok(())
-}
 
-/// Tells of the callable of an id, of which it is known whether it has too many leaves.
-fn tell_of<'tree>(
-    alloc: Global,
-    tcx: &'tree TypeContext,
-    is_crowded: bool,
-    id: &CallableId,
-    errors: &mut ErrorStore<'tree>,
-) -> Result<(), NoMemory>
-    requires there { IsSome (callable_at tcx.now.definitions id.now) }
-    requires counted { IfSome (callable_at tcx.now.definitions id.now)
-        (λ c. is_crowded ≡ has_too_many c) }
-    ensures { IfSome (callable_at tcx.now.definitions id.now) (λ c. OnOk result
-        (errors.new.reports ≡ errors.old.reports
-        ++ callable_reports_of tcx.now.definitions c)) }
-{
-    let is_elided = elides(tcx, id);
-    go_to(place_of(tcx, *id), errors);
-    tell_if(alloc, is_crowded, Rule::TooManyLeaves, errors)?;
-    tell_if(alloc, is_elided, Rule::ElidedReturn, errors)?;
-    tell_method(alloc, tcx, id, errors)
-}
-
-/// Tells of each callable.
-fn tell_each<'tree>(
-    alloc: Global,
-    tcx: &'tree TypeContext,
-    flags: &[bool],
-    ids: &[CallableId],
-    errors: &mut ErrorStore<'tree>,
-) -> Result<(), NoMemory>
-    requires counted { flags.now ≡ map has_too_many (callables tcx.now.definitions) }
-    requires all { map (callable_at tcx.now.definitions) ids.now
-        ≡ map Some (callables tcx.now.definitions) }
-    ensures { OnOk result (errors.new.reports
-        ≡ errors.old.reports ++ callable_reports tcx.now.definitions) }
-{
-    for (number, id) in ids.iter().enumerate() {
-        tell_of(alloc, tcx, flags[number], id, errors)?;
+    /// Tells of it that it leaves out a lifetime that it returns, where it is a method of a type; and of its types.
+    #[tactic(auto, using(hir_reports::proofs::StoreLaws::added_more))]
+    fn tell_elided(
+        &self,
+        alloc: Global,
+        id: &CallableId,
+        method: &Method,
+        errors: &mut ErrorStore<'_>,
+    ) -> Result<(), NoMemory>
+        ensures { OnOk result (errors.new ≡ added errors.old
+            (one_if (is_type_method id.now && list_any (is_unnamed method.now.lifetime_env)
+            (lifetimes_named method.now.output)) (plain_error rule.ElidedReturn)
+            ++ (signature_errors self.now.callbacks_must_fail
+            self.now.counts.tcx.now.definitions method.now ++ cond (is_type_method id.now)
+            (method_rule_errors self.now.counts.tcx.now.definitions method.now) []))) }
+    {
+        let is_elided = is_type_method(*id) && returns_unnamed(method);
+        tell_if(alloc, is_elided, Rule::ElidedReturn, errors)?;
+        self.tell_signature(alloc, id, method, errors)
     }
-    Ok(())
-}
 
-/// The reports of the callables of a context that break a rule, in the order of the callables.
-/// `NoMemory` where there is none.
-pub fn callable_reports(alloc: Global, tcx: &TypeContext) -> Result<Vec<LoweringReport>, NoMemory>
-    ensures { IfOk result (λ told. told.items ≡ callable_reports tcx.now.definitions) }
-{
-    let flags = with_too_many_leaves(alloc, tcx)?;
-    let ids = callable_ids(alloc, tcx)?;
-    let mut errors = ErrorStore::new(alloc);
-    tell_each(alloc, tcx, &flags, ids.as_slice(), &mut errors)?;
-    Ok(errors.take_errors())
+    /// Whether the inputs of a callable have too many leaves.
+    fn is_crowded(&self, method: &Method) -> bool
+        ensures { result ≡ nat_lt most_leaves (length
+            (borrowing_leaves self.now.counts.tcx.now.definitions receiver_name method.now)) }
+    {
+        self.counts.has_too_many(method)
+    }
+
+    /// Tells of a callable all that it breaks, at the place at which the store is.
+    #[tactic(auto, using(hir_reports::proofs::StoreLaws::added_more))]
+    pub(crate) fn tell_callable(
+        &self,
+        alloc: Global,
+        id: &CallableId,
+        method: &Method,
+        errors: &mut ErrorStore<'_>,
+    ) -> Result<(), NoMemory>
+        ensures { OnOk result (errors.new ≡ added errors.old
+            (lowered_callable_errors self.now.callbacks_must_fail
+            self.now.counts.tcx.now.definitions
+            (callable_of self.now.counts.tcx.now.definitions id.now errors.old.place method.now)
+            method.now)) }
+    {
+        tell_if(alloc, self.is_crowded(method), Rule::TooManyLeaves, errors)?;
+        self.tell_elided(alloc, id, method, errors)
+    }
 }

@@ -1,5 +1,5 @@
 -- What is told of implied bounds is what breaks the rule.
-use Rattle.std.proofs.Common.{◌≡◌, ◌≢◌, ◌<◌, ◌+◌, ◌⊎◌, inl, inr, ℕ, List, [], ◌∷◌, Bool, true, false, Option, Some, slice_get, refl, sym, subst, ap, ◌∙◌, arith}
+use Rattle.std.proofs.Common.{◌≡◌, ◌≢◌, ◌<◌, ◌+◌, ◌⊎◌, inl, inr, ℕ, List, [], ◌∷◌, true, Option, Some, slice_get, refl, sym, subst, ap, ◌∙◌, arith}
 use Rattle.std.specs.Prelude.{◌&&◌, not, nat_lt, ◌==◌, ⊤}
 use Rattle.std.specs.List.{Contains, enumerate_from, flat_map}
 use Rattle.std.proofs.lemmas.Bool.{eq-eqb, eqb-true, lt-ltb, ltb-true}
@@ -18,19 +18,11 @@ use Rattle.hir_mentions.specs.Mentions.{where_any}
 use Rattle.hir_reports.specs.declared.report.LoweringError.{LoweringError}
 use Rattle.hir_validation.specs.ImpliedBounds.{behind_errors, bound_error, definition_errors, implied_errors, lacks_bound, named_behind_errors, named_written_errors, numbered_outliving_errors, opaque_bound_errors, outliving_errors, written_errors, written_longer_errors}
 use Rattle.hir_validation.specs.Lifetimes.{is_in_list, is_lifetime, where_number}
-use Rattle.hir_validation.specs.WholeTypes.{Whole, Primitive, Enum, Opaque, Struct, Slice, Other}
+use Rattle.hir_validation.specs.WholeTypes.{Whole, Primitive, Enum, Opaque, Struct, Slice, Callback, Other}
 use Rattle.hir_validation.specs.rules.ImpliedBound.{ImpliedBound, Implies, WritesBound}
-use Rattle.hir_validation.proofs.ExactlyLemmas.{any_exactly, at_number, number_exactly, numbered_at}
+use Rattle.hir_validation.proofs.ExactlyLemmas.{any_exactly, at_number, false_isnt, isnt, number_exactly, numbered_at}
 
 -- ---- tests
-
-isnt : (b : Bool) → ¬ (b ≡ true) → b ≡ false
-isnt true h = absurd (h refl)
-isnt false h = refl
-
-false_isnt : (b : Bool) → b ≡ false → ¬ (b ≡ true)
-false_isnt true h t = cc
-false_isnt false h t = cc
 
 one_of : (l : ℕ) (xs : List ℕ) → is_in_list l xs ≡ true → Contains xs l
 one_of l xs h =
@@ -336,4 +328,5 @@ module _ (defs : Definitions) (env : Environment) (source : List ℕ) where
   implied_exactly Primitive = none_exactly Primitive (λ b. b)
   implied_exactly (Enum number) = none_exactly (Enum number) (λ b. b)
   implied_exactly (Slice element) = none_exactly (Slice element) (λ b. b)
+  implied_exactly (Callback output) = none_exactly (Callback output) (λ b. b)
   implied_exactly Other = none_exactly Other (λ b. b)

@@ -8,6 +8,8 @@ use Rattle.bridge_telling.specs.Telling.{TellsExactly}
 use Rattle.bridge_telling.proofs.ExactLemmas.{exactly_as, exactly_both, exactly_each, exactly_if, in_cases, in_first, in_none, in_rest}
 use Rattle.bridge_telling.proofs.TestLemmas.{and_parts, parts_and}
 use Rattle.hir_attrs.specs.Reading.{about}
+use Rattle.hir_context.specs.Lookups.{InputStruct}
+use Rattle.hir_context.specs.Lookups as defined
 use Rattle.hir_context.specs.declared.parts.Definitions.{Definitions}
 use Rattle.hir_definitions.specs.declared.methods.Method.{Method}
 use Rattle.hir_definitions.specs.declared.methods.Param.{Param}
@@ -21,6 +23,7 @@ use Rattle.hir_life.specs.Environment.{Environment}
 use Rattle.hir_life.specs.Naming.{printed_name}
 use Rattle.hir_life.specs.declared.maybe_static.MaybeStatic.{MaybeStatic}
 use Rattle.hir_life.specs.declared.maybe_static.MaybeStatic.TheVariants.{NonStatic}
+use Rattle.hir_reports.specs.Texts.{plain_error}
 use Rattle.hir_reports.specs.declared.report.LoweringError.{LoweringError}
 use Rattle.hir_reports.specs.declared.rule.Rule.TheVariants as rule
 use Rattle.hir_types.specs.Named.{ReturnedType, contained, lifetimes_named}
@@ -28,15 +31,18 @@ use Rattle.hir_types.specs.declared.paths.StructPath.{StructPath}
 use Rattle.hir_types.specs.declared.self_types.SelfType.{SelfType}
 use Rattle.hir_types.specs.declared.self_types.SelfType.TheVariants as receiver
 use Rattle.hir_validation.specs.ImpliedBounds.{method_bound_errors, param_bound_errors, param_source, return_source, returned_bound_errors}
-use Rattle.hir_validation.specs.LoweredMethodBreaks.{LoweredMethodBreaks}
+use Rattle.hir_validation.specs.LoweredMethodBreaks.{HasReceiver, LoweredMethodBreaks}
 use Rattle.hir_validation.specs.Returned.{comes_back, element_error, element_lifetime_errors, method_returned_errors, numbered_element_errors, param_lifetimes, returned_input_errors, returned_lifetime_errors, returned_param_errors, returned_receiver_errors, returned_reference_errors, returned_self_errors, returned_whole_errors, unknown_element_errors}
 use Rattle.hir_validation.specs.Lifetimes.{is_numbered, is_returned, where_number}
+use Rattle.hir_validation.specs.Signatures.{receiver_errors}
 use Rattle.hir_validation.specs.Told.{method_rule_errors}
-use Rattle.hir_validation.specs.WholeTypes.{Whole, Primitive, Enum, Opaque, Struct, Slice, Other, param_whole, returned_whole}
+use Rattle.hir_validation.specs.WholeTypes.{Whole, Primitive, Enum, Opaque, Struct, Slice, Callback, Other, param_whole, returned_whole}
 use Rattle.hir_validation.specs.rules.StructRefReturned.{StructRefReturned}
 use Rattle.hir_validation.proofs.BoundLemmas.{BoundOf, implied_exactly}
 use Rattle.hir_validation.proofs.ExactlyLemmas.{any_exactly, number_exactly}
+use Rattle.hir_validation.proofs.ReceiverLemmas.{HeldReceiver, held_exactly_at}
 use Rattle.hir_validation.proofs.SetLemmas.{numbered_is, of_returned, returned_of}
+use Rattle.hir_validation.proofs.VisitedLemmas.{OfHeld, mutable_of, of_mutable}
 
 -- ---- lifetimes that are returned
 
@@ -224,6 +230,7 @@ module _ (env : Environment) (returned : List (MaybeStatic ℕ)) where
   whole_exactly name lifetimes Primitive = nothing name lifetimes Primitive (λ b. b)
   whole_exactly name lifetimes (Enum number) = nothing name lifetimes (Enum number) (λ b. b)
   whole_exactly name lifetimes (Opaque number borrow given) = nothing name lifetimes (Opaque number borrow given) (λ b. b)
+  whole_exactly name lifetimes (Callback output) = nothing name lifetimes (Callback output) (λ b. b)
   whole_exactly name lifetimes Other = nothing name lifetimes Other (λ b. b)
 
   abbrev OfParam : Param → LoweringError → Type 0
@@ -268,8 +275,11 @@ module _ (defs : Definitions) (method : Method) where
   unfolding method_returned_errors
   returned_exactly = inputs_exactly env returned method.param_self method.params
 
+  abbrev OfLifetimes : LoweringError → Type 0
+  OfLifetimes e = (ParamBound e ⊎ ReturnBound e) ⊎ OfInputs env returned method.param_self method.params e
+
   abbrev Told : LoweringError → Type 0
-  Told e = (ParamBound e ⊎ ReturnBound e) ⊎ OfInputs env returned method.param_self method.params e
+  Told e = HeldReceiver defs method.param_self e ⊎ OfLifetimes e
 
   as_break : {d : LoweringError} (e : LoweringError) → e ≡ d → LoweredMethodBreaks defs method d → LoweredMethodBreaks defs method e
   as_break e is b = subst (LoweredMethodBreaks defs method) (sym is) b
@@ -295,8 +305,8 @@ module _ (defs : Definitions) (method : Method) where
             within = back.1;
           }))
 
-  breaks_of : (e : LoweringError) → Told e → LoweredMethodBreaks defs method e
-  breaks_of e h = elim h [
+  lifetimes_break : (e : LoweringError) → OfLifetimes e → LoweredMethodBreaks defs method e
+  lifetimes_break e h = elim h [
     | inl b ↦ elim b [
       | inl p ↦ as_break e p.1.1.1.1.1.1 (LoweredMethodBreaks.param_bound p.0 p.1.1.0 p.1.1.1.0 p.1.1.1.1.0 p.1.0 p.1.1.1.1.1.0)
       | inr r ↦ as_break e r.1.1.1.1.1.1 (LoweredMethodBreaks.return_bound r.0 r.1.1.0 r.1.1.1.0 r.1.1.1.1.0 r.1.0 r.1.1.1.1.1.0)
@@ -304,17 +314,47 @@ module _ (defs : Definitions) (method : Method) where
     | inr i ↦ input_breaks e i
   ]
 
+  receiver_breaks : (e : LoweringError) → HeldReceiver defs method.param_self e → LoweredMethodBreaks defs method e
+  receiver_breaks e h =
+      let self = h.0 in
+      let path = h.1.1.0 in
+      let def = h.1.1.1.1.0 in
+      let has : HasReceiver defs method path.owner def =
+      record { self = self; is = h.1.0; path = path; of_struct = h.1.1.1.0; is_held = refl; found = h.1.1.1.1.1.0 } in
+      elim h.1.1.1.1.1.1 [
+        | inl m ↦ as_break e m.1 (LoweredMethodBreaks.receiver_mutable path.owner def has (mutable_of def path.owner m.0))
+        | inr t ↦ as_break e t.1 (LoweredMethodBreaks.receiver_tuple path.owner def has (record { marked = t.0 }))
+      ]
+
+  breaks_of : (e : LoweringError) → Told e → LoweredMethodBreaks defs method e
+  breaks_of e h = elim h [ inl r ↦ receiver_breaks e r | inr l ↦ lifetimes_break e l ]
+
+  held_receiver : (held : MaybeOwn) (def : InputStruct) (e : LoweringError) (r : HasReceiver defs method held def) → OfHeld held (defined.Struct def) e
+      → HeldReceiver defs method.param_self e
+  held_receiver held def e r h =
+      (r.self, (r.is, (r.path, (r.of_struct, (def, (r.found, subst (λ (m : MaybeOwn). OfHeld m (defined.Struct def) e) r.is_held h))))))
+
   told_of : (e : LoweringError) → LoweredMethodBreaks defs method e → Told e
-  told_of _ (LoweredMethodBreaks.param_bound param longer shorter names has b) = inl (inl (param, (has, (longer, (shorter, (names, (b, refl)))))))
-  told_of _ (LoweredMethodBreaks.return_bound ty longer shorter names has b) = inl (inr (ty, (has, (longer, (shorter, (names, (b, refl)))))))
-  told_of _ (LoweredMethodBreaks.receiver_returned self path l is of_struct b) = inr (inl (self, (is, (path, (of_struct, (l, (b, refl)))))))
-  told_of _ (LoweredMethodBreaks.param_returned param id held given l has is b) = inr (inr (param, (has, inl (id, (held, (given, (is, (l, (b, refl)))))))))
+  told_of _ (LoweredMethodBreaks.receiver_mutable held def r b) =
+      inl (held_receiver held def (about rule.MutStructRef def.name.0) r (inl (of_mutable def held b, refl)))
+  told_of _ (LoweredMethodBreaks.receiver_tuple held def r b) =
+      inl (held_receiver held def (plain_error rule.TupleReference) r (inr (b.marked, refl)))
+  told_of _ (LoweredMethodBreaks.param_bound param longer shorter names has b) =
+      inr (inl (inl (param, (has, (longer, (shorter, (names, (b, refl))))))))
+  told_of _ (LoweredMethodBreaks.return_bound ty longer shorter names has b) =
+      inr (inl (inr (ty, (has, (longer, (shorter, (names, (b, refl))))))))
+  told_of _ (LoweredMethodBreaks.receiver_returned self path l is of_struct b) =
+      inr (inr (inl (self, (is, (path, (of_struct, (l, (b, refl))))))))
+  told_of _ (LoweredMethodBreaks.param_returned param id held given l has is b) =
+      inr (inr (inr (param, (has, inl (id, (held, (given, (is, (l, (b, refl))))))))))
   told_of _ (LoweredMethodBreaks.opaque_slice_borrowed param l has b) =
-      inr (inr (param, (has, inr (b.number, (b.of_opaques, (l, (b.has, (refl, (of_back env returned l (b.is_returned, b.within), refl)))))))))
+      inr (inr (inr (param, (has, inr (b.number, (b.of_opaques, (l, (b.has, (refl, (of_back env returned l (b.is_returned, b.within), refl))))))))))
 
   pub method_exactly : TellsExactly (method_rule_errors defs method) (LoweredMethodBreaks defs method)
   unfolding method_rule_errors
   method_exactly =
-      exactly_as (method_bound_errors defs method ++ method_returned_errors method) Told (LoweredMethodBreaks defs method) (λ e. (λ h. breaks_of e h, λ b. told_of e b))
-      (exactly_both (method_bound_errors defs method) (method_returned_errors method) (λ e. ParamBound e ⊎ ReturnBound e) (OfInputs env returned method.param_self method.params)
-      bounds_exactly returned_exactly)
+      let bounds = method_bound_errors defs method in
+      let back = method_returned_errors method in
+      exactly_as (receiver_errors defs method.param_self ++ (bounds ++ back)) Told (LoweredMethodBreaks defs method) (λ e. (λ h. breaks_of e h, λ b. told_of e b))
+      (exactly_both (receiver_errors defs method.param_self) (bounds ++ back) (HeldReceiver defs method.param_self) OfLifetimes (held_exactly_at defs method.param_self)
+      (exactly_both bounds back (λ e. ParamBound e ⊎ ReturnBound e) (OfInputs env returned method.param_self method.params) bounds_exactly returned_exactly))

@@ -1,5 +1,5 @@
 -- Lists that tell exactly what is said, of what may be there, of numbered lifetimes, and of numbered things.
-use Rattle.std.proofs.Common.{◌≡◌, ◌+◌, ℕ, zero, suc, List, [], ◌∷◌, Option, Some, None, slice_get, refl, sym, subst, ap, ◌∙◌, arith, inl, inr}
+use Rattle.std.proofs.Common.{◌≡◌, ◌+◌, ℕ, zero, suc, List, [], ◌∷◌, Bool, true, false, cond, Option, Some, None, slice_get, refl, sym, subst, ap, ◌∙◌, arith, inl, inr}
 use Rattle.std.specs.List.{Contains, enumerate_from}
 use Rattle.bridge_telling.specs.Telling.{TellsExactly}
 use Rattle.bridge_telling.proofs.ExactLemmas.{in_cases, in_first, in_none, in_rest}
@@ -7,11 +7,12 @@ use Rattle.hir_life.specs.declared.maybe_static.MaybeStatic.{MaybeStatic}
 use Rattle.hir_life.specs.declared.maybe_static.MaybeStatic.TheVariants.{NonStatic, Static}
 use Rattle.hir_mentions.specs.Mentions.{where_any}
 use Rattle.hir_validation.specs.Lifetimes.{where_number}
+use Rattle.hir_validation.specs.Tests.{is_some_such}
 
 pub same_some : {A : Type 0} (x y : A) → Some x ≡ Some y → x ≡ y
 same_some x y h = cc
 
-never_some : {A : Type 0} (x : A) → ¬ (None ≡ Some x)
+pub never_some : {A : Type 0} (x : A) → ¬ (None ≡ Some x)
 never_some x h = cc
 
 same_number : (n m : ℕ) → NonStatic n ≡ NonStatic m → n ≡ m
@@ -19,6 +20,30 @@ same_number n m h = cc
 
 never_number : (n : ℕ) → ¬ (Static ≡ NonStatic n)
 never_number n h = cc
+
+-- ---- tests
+
+pub isnt : (b : Bool) → ¬ (b ≡ true) → b ≡ false
+isnt true h = absurd (h refl)
+isnt false h = refl
+
+pub false_isnt : (b : Bool) → b ≡ false → ¬ (b ≡ true)
+false_isnt true h t = cc
+false_isnt false h t = cc
+
+pub such_of : {A : Type 0} (test : A → Bool) (o : Option A) → is_some_such test o ≡ true → (x : A) × ((o ≡ Some x) × (test x ≡ true))
+such_of test None h = absurd (false_isnt false refl h)
+such_of test (Some x) h = (x, (refl, h))
+
+pub of_such : {A : Type 0} (test : A → Bool) (o : Option A) (x : A) → o ≡ Some x → test x ≡ true → is_some_such test o ≡ true
+of_such test o x is h = ap (is_some_such test) is ∙ h
+
+-- where a test passes
+pub cond_exactly : {E : Type 0} (b : Bool) (xs : List E) (P : E → Type 0) → TellsExactly xs P → TellsExactly (cond b xs []) (λ e. (b ≡ true) × P e)
+cond_exactly true xs P p e = (λ h. (refl, (p e).0 h), λ h. (p e).1 h.1)
+cond_exactly false xs P p e = (λ h. absurd (in_none e h), λ h. absurd (false_isnt false refl h.0))
+
+-- ---- lists
 
 -- of what may be there
 pub any_exactly : {X E : Type 0} (f : X → List E) (P : X → E → Type 0) → ((x : X) → TellsExactly (f x) (P x)) → (o : Option X)

@@ -17,7 +17,7 @@ use Rattle.hir_reports.specs.declared.report.LoweringError.{LoweringError}
 use Rattle.hir_reports.specs.declared.rule.Rule.TheVariants as rule
 use Rattle.hir_types.specs.Named.{ReturnedType, contained}
 use Rattle.hir_validation.specs.Lifetimes.{is_in_list, where_number}
-use Rattle.hir_validation.specs.WholeTypes.{Whole, Primitive, Enum, Opaque, Struct, Slice, Other, param_whole, returned_whole}
+use Rattle.hir_validation.specs.WholeTypes.{Whole, Primitive, Enum, Opaque, Struct, Slice, Callback, Other, param_whole, returned_whole}
 
 -- the bound of these, with where it comes from
 abbrev pub bound_error : Environment → List ℕ → ℕ → ℕ → List (List ℕ) → LoweringError
@@ -76,6 +76,7 @@ module _ (env : Environment) (source : List ℕ) where
   implied_errors defs Primitive = []
   implied_errors defs (Enum number) = []
   implied_errors defs (Slice element) = []
+  implied_errors defs (Callback output) = []
   implied_errors defs Other = []
 
 -- ---- of a method

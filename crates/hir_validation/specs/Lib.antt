@@ -1,8 +1,16 @@
+pub mod Tests
 pub mod WholeTypes
 pub mod Lifetimes
 pub mod ImpliedBounds
 pub mod Returned
+pub mod CallbackReturns
+pub mod Visited
+pub mod Structs
+pub mod Signatures
 pub mod Told
 pub mod rules
+pub mod VisitedBreaks
+pub mod LoweredTypeBreaks
+pub mod LoweredSignatureBreaks
 pub mod LoweredMethodBreaks
 pub mod inside

@@ -21,7 +21,7 @@ use Rattle.hir_types.specs.Types.{lifetimes_within}
 use Rattle.hir_types.specs.declared.self_types.SelfType.{SelfType}
 use Rattle.hir_types.specs.declared.self_types.SelfType.TheVariants as receiver
 use Rattle.hir_validation.specs.Lifetimes.{is_numbered, is_returned, where_number}
-use Rattle.hir_validation.specs.WholeTypes.{Whole, Primitive, Enum, Opaque, Struct, Slice, Other, TakenType, param_whole}
+use Rattle.hir_validation.specs.WholeTypes.{Whole, Primitive, Enum, Opaque, Struct, Slice, Callback, Other, TakenType, param_whole}
 
 -- all lifetimes of a parameter
 abbrev pub param_lifetimes : TakenType → List (MaybeStatic ℕ)
@@ -79,6 +79,7 @@ module _ (env : Environment) (returned : List (MaybeStatic ℕ)) where
   returned_whole_errors name lifetimes Primitive = []
   returned_whole_errors name lifetimes (Enum number) = []
   returned_whole_errors name lifetimes (Opaque number borrow given) = []
+  returned_whole_errors name lifetimes (Callback output) = []
   returned_whole_errors name lifetimes Other = []
 
   abbrev pub returned_param_errors : Param → List LoweringError

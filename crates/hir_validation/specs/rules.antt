@@ -1,3 +1,10 @@
 pub mod ImpliedBound
 pub mod StructRefReturned
 pub mod OpaqueSliceBorrowed
+pub mod AbiUnmarked
+pub mod OutStructSlice
+pub mod MutStructRef
+pub mod TupleReference
+pub mod CallbackReturn
+pub mod FieldBorrow
+pub mod AbiLayout

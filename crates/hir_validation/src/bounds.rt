@@ -13,29 +13,17 @@ ghost use Rattle.hir_validation.specs.ImpliedBounds.{behind_errors, bound_error,
 ghost use Rattle.hir_validation.specs.Lifetimes.{is_in_list};
 ghost use Rattle.hir_validation.specs.WholeTypes.{whole_type};
 
-use crate::returned::lifetime_text;
+use crate::shorter::{Shorter, shorter_of};
+use crate::signatures::error_type;
 use crate::whole::{WholeType, whole_type};
-use bridge_decl::{Items, NoMemory, Text};
+use bridge_decl::{NoMemory, Text};
 use hir_context::TypeContext;
 use hir_definitions::{Method, Param};
 use hir_ids::{OpaqueId, TypeId};
 use hir_life::{BoundedLifetime, Lifetime, LifetimeEnv, MaybeStatic};
-use hir_reports::{ErrorStore, LoweringError, Rule};
-use hir_types::{HirType, OutType, OutputOnly, ReturnType, TyPosition};
+use hir_reports::ErrorStore;
+use hir_types::{HirType, OutType, OutputOnly, PositionTypes, ReturnType};
 use std::alloc::Global;
-use std::marker::Model;
-
-/// Whether the lifetime is among these.
-fn is_in_list(lifetime: Lifetime, lifetimes: &[Lifetime]) -> bool
-    ensures { result ≡ is_in_list lifetime lifetimes.now }
-{
-    for other in lifetimes {
-        if lifetime.index() == other.index() {
-            return true;
-        }
-    }
-    false
-}
 
 /// The lifetimes of a definition, where the type has them.
 fn environment_of<'tcx>(tcx: &'tcx TypeContext, id: &TypeId) -> Option<&'tcx LifetimeEnv>
@@ -55,197 +43,6 @@ fn environment_of<'tcx>(tcx: &'tcx TypeContext, id: &TypeId) -> Option<&'tcx Lif
             None => None,
         },
         TypeId::Enum(_) => None,
-    }
-}
-
-/// A lifetime of a method that has a name, and where it is asked that others outlive it.
-#[derive(Drop)]
-struct Shorter<'m> {
-    env: &'m LifetimeEnv,
-    source: &'m str,
-    number: Lifetime,
-    bounds: &'m BoundedLifetime,
-}
-
-impl<'m> Model for Shorter<'m> {
-    ghost use Rattle.std.specs.Prelude.{◌≡◌, ◌<◌, Some, slice_get};
-    ghost use Rattle.hir_validation.specs.inside.Seen.{NamedLifetime};
-
-    ghost Value = { NamedLifetime };
-
-    ghost view = { λ it. record {
-      env = it.env.now;
-      source = it.source.now;
-      number = it.number;
-      bounds = it.bounds.now;
-    } };
-
-    ghost invariant = { λ it. it.number < it.env.now.count };
-}
-
-impl<'m> Shorter<'m> {
-    /// Whether the lifetime has to outlive it, and isn't declared to.
-    fn lacks(&self, lifetime: Lifetime) -> bool
-        ensures { result ≡ lacks_bound self.now.env self.now.number self.now.bounds lifetime }
-    {
-        lifetime.index() != self.number.index()
-            && !is_in_list(lifetime, self.bounds.longer.as_slice())
-            && self.env.contains(lifetime)
-    }
-
-    /// The error that a bound is wanting which a definition writes, between lifetimes of these names.
-    fn written_error(
-        &self,
-        alloc: Global,
-        lifetime: Lifetime,
-        longer: &BoundedLifetime,
-        shorter: &BoundedLifetime,
-    ) -> Result<LoweringError, NoMemory>
-        requires { lifetime < self.now.env.count }
-        ensures { IfOk result (λ error. error ≡ bound_error self.now.env self.now.source
-            self.now.number lifetime (longer.now.ident ∷ shorter.now.ident ∷ [])) }
-    {
-        let above = lifetime_text(alloc, self.env, lifetime)?;
-        let below = lifetime_text(alloc, self.env, self.number)?;
-        let mut args = Items::new(alloc);
-        args.push(Text::new(alloc, self.source)?)?;
-        args.push(above)?;
-        args.push(below)?;
-        args.push(Text::new(alloc, longer.ident.as_str())?)?;
-        args.push(Text::new(alloc, shorter.ident.as_str())?)?;
-        Ok(LoweringError {
-            rule: Rule::ImpliedBound,
-            args,
-        })
-    }
-
-    /// The error that a bound is wanting which a reference implies.
-    fn behind_error(&self, alloc: Global, lifetime: Lifetime) -> Result<LoweringError, NoMemory>
-        requires { lifetime < self.now.env.count }
-        ensures { IfOk result (λ error. error
-            ≡ bound_error self.now.env self.now.source self.now.number lifetime []) }
-    {
-        let above = lifetime_text(alloc, self.env, lifetime)?;
-        let below = lifetime_text(alloc, self.env, self.number)?;
-        let mut args = Items::new(alloc);
-        args.push(Text::new(alloc, self.source)?)?;
-        args.push(above)?;
-        args.push(below)?;
-        Ok(LoweringError {
-            rule: Rule::ImpliedBound,
-            args,
-        })
-    }
-
-    /// Tells that a bound is wanting, where it is.
-    fn tell_written_number(
-        &self,
-        alloc: Global,
-        longer: &BoundedLifetime,
-        shorter: &BoundedLifetime,
-        lifetime: Lifetime,
-        errors: &mut ErrorStore<'_>,
-    ) -> Result<(), NoMemory>
-        ensures { OnOk result (errors.new ≡ added errors.old
-            (numbered_outliving_errors self.now.env self.now.source self.now.number self.now.bounds
-            (longer.now.ident ∷ shorter.now.ident ∷ []) lifetime)) }
-    {
-        if self.lacks(lifetime) {
-            let error = self.written_error(alloc, lifetime, longer, shorter)?;
-            return errors.push(error);
-        }
-        Ok(())
-    }
-
-    /// The same of what may be `'static`.
-    fn tell_written(
-        &self,
-        alloc: Global,
-        longer: &BoundedLifetime,
-        shorter: &BoundedLifetime,
-        lifetime: &MaybeStatic<Lifetime>,
-        errors: &mut ErrorStore<'_>,
-    ) -> Result<(), NoMemory>
-        ensures { OnOk result (errors.new ≡ added errors.old
-            (outliving_errors self.now.env self.now.source self.now.number self.now.bounds
-            (longer.now.ident ∷ shorter.now.ident ∷ []) lifetime.now)) }
-    {
-        match lifetime {
-            MaybeStatic::Static => Ok(()),
-            MaybeStatic::NonStatic(lifetime) => {
-                self.tell_written_number(alloc, longer, shorter, *lifetime, errors)
-            }
-        }
-    }
-
-    /// Tells that a bound is wanting which a reference implies, where it is.
-    fn tell_behind_number(
-        &self,
-        alloc: Global,
-        lifetime: Lifetime,
-        errors: &mut ErrorStore<'_>,
-    ) -> Result<(), NoMemory>
-        ensures { OnOk result (errors.new ≡ added errors.old (numbered_outliving_errors
-            self.now.env self.now.source self.now.number self.now.bounds [] lifetime)) }
-    {
-        if self.lacks(lifetime) {
-            let error = self.behind_error(alloc, lifetime)?;
-            return errors.push(error);
-        }
-        Ok(())
-    }
-
-    /// The same of what may be `'static`.
-    fn tell_behind(
-        &self,
-        alloc: Global,
-        lifetime: &MaybeStatic<Lifetime>,
-        errors: &mut ErrorStore<'_>,
-    ) -> Result<(), NoMemory>
-        ensures { OnOk result (errors.new ≡ added errors.old (outliving_errors self.now.env
-            self.now.source self.now.number self.now.bounds [] lifetime.now)) }
-    {
-        match lifetime {
-            MaybeStatic::Static => Ok(()),
-            MaybeStatic::NonStatic(lifetime) => self.tell_behind_number(alloc, *lifetime, errors),
-        }
-    }
-
-    /// The same of each that the reference leads to.
-    fn tell_each_behind(
-        &self,
-        alloc: Global,
-        given: &[MaybeStatic<Lifetime>],
-        errors: &mut ErrorStore<'_>,
-    ) -> Result<(), NoMemory>
-        ensures { OnOk result (errors.new ≡ added errors.old (flat_map (outliving_errors
-            self.now.env self.now.source self.now.number self.now.bounds []) given.now)) }
-    {
-        for lifetime in given {
-            self.tell_behind(alloc, lifetime, errors)?;
-        }
-        Ok(())
-    }
-}
-
-/// The lifetime of that number, where it has a name.
-fn shorter_of<'m>(env: &'m LifetimeEnv, source: &'m str, number: Lifetime) -> Option<Shorter<'m>>
-    ensures { result ≡ option_map (λ bounds. record {
-      env = env.now;
-      source = source.now;
-      number = number;
-      bounds = bounds;
-    }) (slice_get env.now.bounds number) }
-{
-    let _named = env.num_lifetimes();
-    match env.get_bounds(number) {
-        Some(bounds) => Some(Shorter {
-            env,
-            source,
-            number,
-            bounds,
-        }),
-        None => None,
     }
 }
 
@@ -276,8 +73,8 @@ impl Given<'_> {
         errors: &mut ErrorStore<'_>,
     ) -> Result<(), NoMemory>
         ensures { OnOk result (errors.new ≡ added errors.old (written_longer_errors
-            shorter.now.env shorter.now.source self.now.definition.now self.now.given.now written.now
-            shorter.now.number shorter.now.bounds number.now)) }
+            shorter.now.env shorter.now.source self.now.definition.now self.now.given.now
+            written.now shorter.now.number shorter.now.bounds number.now)) }
     {
         match self.definition.get_bounds(*number) {
             Some(longer) => match self.standing_for(number.index()) {
@@ -297,8 +94,8 @@ impl Given<'_> {
         errors: &mut ErrorStore<'_>,
     ) -> Result<(), NoMemory>
         ensures { OnOk result (errors.new ≡ added errors.old (flat_map (written_longer_errors
-            shorter.now.env shorter.now.source self.now.definition.now self.now.given.now written.now
-            shorter.now.number shorter.now.bounds) written.now.longer)) }
+            shorter.now.env shorter.now.source self.now.definition.now self.now.given.now
+            written.now shorter.now.number shorter.now.bounds) written.now.longer)) }
     {
         for number in written.longer.as_slice() {
             self.tell_longer(alloc, shorter, written, number, errors)?;
@@ -461,7 +258,7 @@ fn tell_opaque(
 
 /// Tells of a type of a method: of the bounds that its definition writes, and of those that a reference implies.
 #[tactic(auto, unfolding(crate::specs::ImpliedBounds::implied_errors))]
-fn tell_implied<P: TyPosition>(
+fn tell_implied<P: PositionTypes>(
     alloc: Global,
     tcx: &TypeContext,
     at: &Where<'_>,
@@ -470,16 +267,18 @@ fn tell_implied<P: TyPosition>(
 ) -> Result<(), NoMemory>
     ensures { OnOk result (errors.new ≡ added errors.old (implied_errors at.now.env.now
         at.now.source.now tcx.now.definitions (whole_type P.OpaqueOwnership.borrow_of
-        P.StructPath.id_of P.StructPath.lifetimes_of P.StructPath.held_of ty.now))) }
+        P.StructPath.id_of P.StructPath.lifetimes_of P.StructPath.held_of P.callback_of ty.now))) }
 {
     match &whole_type(ty) {
         WholeType::Opaque(id, borrow, given) => {
             tell_opaque(alloc, tcx, at, *id, borrow, given, errors)
         }
         WholeType::Struct(id, _, given) => tell_definition(alloc, tcx, at, id, given, errors),
-        WholeType::Primitive | WholeType::Enum(_) | WholeType::Slice(_) | WholeType::Other => {
-            Ok(())
-        }
+        WholeType::Primitive
+        | WholeType::Enum(_)
+        | WholeType::Slice(_)
+        | WholeType::Callback(_)
+        | WholeType::Other => Ok(()),
     }
 }
 
@@ -541,16 +340,6 @@ fn tell_returned(
             tell_implied(alloc, tcx, &at, ty, errors)
         }
         None => Ok(()),
-    }
-}
-
-/// The type of the error, where there is one.
-fn error_type(output: &ReturnType<OutputOnly>) -> Option<&OutType>
-    ensures { option_copied result ≡ error_of output.now }
-{
-    match output {
-        ReturnType::Fallible(_, Some(error)) => Some(error),
-        _ => None,
     }
 }
 

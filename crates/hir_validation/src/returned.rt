@@ -9,7 +9,7 @@ ghost use Rattle.hir_reports.specs.Store.{added};
 ghost use Rattle.hir_types.specs.Named.{lifetimes_named};
 ghost use Rattle.hir_validation.specs.Lifetimes.{is_lifetime, is_numbered, is_returned, where_number};
 ghost use Rattle.hir_validation.specs.Returned.{comes_back, element_lifetime_errors, method_returned_errors, numbered_element_errors, opaque_element_errors, param_lifetimes, returned_input_errors, returned_lifetime_errors, returned_param_errors, returned_receiver_errors, returned_reference_errors, returned_self_errors, returned_whole_errors, unknown_element_errors};
-ghost use Rattle.hir_validation.specs.WholeTypes.{param_whole};
+ghost use Rattle.hir_validation.specs.WholeTypes.{whole_type};
 ghost use Rattle.hir_validation.specs.inside.Seen.{whole_seen};
 
 use crate::whole::{WholeType, whole_type};
@@ -18,7 +18,7 @@ use hir_definitions::{Method, Param, ParamSelf};
 use hir_ids::{MaybeOwn, TypeId};
 use hir_life::{Lifetime, LifetimeEnv, MaybeStatic};
 use hir_reports::{ErrorStore, LoweringError, Rule};
-use hir_types::{HirType, InputOnly, OutputOnly, ReturnType, SelfType};
+use hir_types::{HirType, InputOnly, OutputOnly, PositionTypes, ReturnType, SelfType};
 use std::alloc::Global;
 use std::collections::BTreeSet;
 use std::marker::Model;
@@ -73,7 +73,8 @@ pub(crate) fn lifetime_text(
 
 /// Notes that the lifetime is known, and answers whether it wasn't.
 fn note(known: &mut BTreeSet<Lifetime>, lifetime: Lifetime) -> Result<bool, NoMemory>
-    ensures first { IfOk result (λ first. first ≡ not (sorted.contains nat_cmp known.old lifetime)) }
+    ensures first { IfOk result
+        (λ first. first ≡ not (sorted.contains nat_cmp known.old lifetime)) }
     ensures known { OnOk result ((l : ℕ) → sorted.contains nat_cmp known.new l
         ≡ (sorted.contains nat_cmp known.old l || is_lifetime lifetime l)) }
 {
@@ -260,25 +261,28 @@ impl<'m> ReturnedLifetimes<'m> {
         }
     }
 
-    /// Tells of the type of a parameter of that name.
-    fn tell_type(
+    /// Tells of a parameter of that name and this type, which is `taken` at the position where it stands.
+    fn tell_whole<P: PositionTypes>(
         &self,
         alloc: Global,
         name: &str,
-        ty: &HirType<InputOnly>,
+        ty: &HirType<P>,
+        taken: &HirType<InputOnly>,
         errors: &mut ErrorStore<'_>,
     ) -> Result<(), NoMemory>
-        ensures { OnOk result (errors.new ≡ added errors.old
-            (returned_whole_errors self.now.env self.now.returned name.now
-            (param_lifetimes ty.now) (param_whole ty.now))) }
+        ensures { OnOk result (errors.new ≡ added errors.old (returned_whole_errors
+            self.now.env self.now.returned name.now (param_lifetimes taken.now)
+            (whole_type P.OpaqueOwnership.borrow_of P.StructPath.id_of
+            P.StructPath.lifetimes_of P.StructPath.held_of P.callback_of ty.now))) }
     {
         match &whole_type(ty) {
             WholeType::Struct(_, held, _) => self.tell_reference(alloc, held, errors),
-            WholeType::Slice(Some(element)) => self.tell_slice(alloc, name, ty, element, errors),
+            WholeType::Slice(Some(element)) => self.tell_slice(alloc, name, taken, element, errors),
             WholeType::Slice(None)
             | WholeType::Primitive
             | WholeType::Enum(_)
             | WholeType::Opaque(_, _, _)
+            | WholeType::Callback(_)
             | WholeType::Other => Ok(()),
         }
     }
@@ -293,7 +297,7 @@ impl<'m> ReturnedLifetimes<'m> {
         ensures { OnOk result (errors.new ≡ added errors.old
             (returned_param_errors self.now.env self.now.returned param.now)) }
     {
-        self.tell_type(alloc, param.name.as_str(), &param.ty, errors)
+        self.tell_whole(alloc, param.name.as_str(), &param.ty, &param.ty, errors)
     }
 
     /// Tells of each parameter.

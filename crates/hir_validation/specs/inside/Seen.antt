@@ -3,7 +3,7 @@ use Rattle.std.specs.Prelude.{ℕ, List}
 use Rattle.hir_life.specs.Environment.{Environment}
 use Rattle.hir_life.specs.declared.bounds.BoundedLifetime.{BoundedLifetime}
 use Rattle.hir_life.specs.declared.maybe_static.MaybeStatic.{MaybeStatic}
-use Rattle.hir_validation.specs.WholeTypes.{Whole, Primitive, Enum, Opaque, Struct, Slice, Other}
+use Rattle.hir_validation.specs.WholeTypes.{Whole, Primitive, Enum, Opaque, Struct, Slice, Callback, Other}
 use Rattle.hir_validation.specs.declared.whole.WholeType.{WholeType}
 use Rattle.hir_validation.specs.declared.whole.WholeType.TheVariants as whole
 
@@ -13,6 +13,7 @@ whole_seen (whole.Enum id) = Enum id
 whole_seen (whole.Opaque id borrow given) = Opaque id borrow given.now
 whole_seen (whole.Struct id held given) = Struct id held given.now
 whole_seen (whole.Slice element) = Slice element
+whole_seen (whole.Callback output) = Callback output.now
 whole_seen whole.Other = Other
 
 -- the lifetimes of a method, with those that it returns
