@@ -7,3 +7,4 @@ mod generating;
 mod inputs;
 mod links;
 mod program;
+mod validation;

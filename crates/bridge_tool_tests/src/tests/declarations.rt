@@ -304,7 +304,7 @@ const NO_REFS: &str =
     r#","backend":{"name":"tests","supports":["static_slices","free_functions","option","callbacks","opaque_slices","default_args"]}}"#;
 
 /// Whether the run on the root module with these settings ends with the status and prints the text.
-fn answers(
+pub fn answers(
     alloc: Global,
     root: &str,
     settings: &str,
