@@ -3,6 +3,7 @@ pub mod WalkLemmas
 pub mod ExactlyLemmas
 pub mod BoundLemmas
 pub mod CallbackLemmas
+mod DirectLemmas
 pub mod VisitedLemmas
 pub mod ReceiverLemmas
 pub mod TypeLemmas

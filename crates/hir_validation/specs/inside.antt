@@ -1,2 +1,3 @@
 -- What the code keeps.
+pub mod Direct
 pub mod Seen

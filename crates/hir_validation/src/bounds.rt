@@ -1,18 +1,16 @@
 //! Bounds that the types of a method imply.
 
-ghost use Rattle.std.specs.Prelude.{◌≡◌, ◌∷◌, [], ℕ, IfOk, OnOk, option_copied, option_map, slice_get, ◌<◌};
-ghost use Rattle.std.specs.List.{enumerate_from, flat_map, list_any};
+ghost use Rattle.std.specs.Prelude.{◌≡◌, OnOk, option_copied, slice_get};
+ghost use Rattle.std.specs.List.{flat_map};
 ghost use Rattle.hir_context.specs.Lookups.{environment_at};
-ghost use Rattle.hir_life.specs.Naming.{printed_name};
 ghost use Rattle.hir_life.specs.declared.maybe_static.MaybeStatic.{MaybeStatic};
 ghost use Rattle.hir_mentions.specs.Mentions.{where_any};
 ghost use Rattle.hir_reports.specs.Store.{added};
 ghost use Rattle.hir_types.specs.Named.{contained, if_any};
-ghost use Rattle.hir_types.specs.Returns.{error_of};
-ghost use Rattle.hir_validation.specs.ImpliedBounds.{behind_errors, bound_error, definition_errors, implied_errors, lacks_bound, method_bound_errors, named_behind_errors, named_written_errors, numbered_outliving_errors, opaque_bound_errors, outliving_errors, param_bound_errors, param_source, return_source, returned_bound_errors, written_errors, written_longer_errors};
-ghost use Rattle.hir_validation.specs.Lifetimes.{is_in_list};
+ghost use Rattle.hir_validation.specs.ImpliedBounds.{behind_errors, definition_errors, implied_errors, method_bound_errors, named_behind_errors, named_written_errors, opaque_bound_errors, param_bound_errors, returned_bound_errors, written_errors, written_longer_errors};
 ghost use Rattle.hir_validation.specs.WholeTypes.{whole_type};
 
+use crate::direct::DirectBounds;
 use crate::shorter::{Shorter, shorter_of};
 use crate::signatures::error_type;
 use crate::whole::{WholeType, whole_type};
@@ -49,7 +47,7 @@ fn environment_of<'tcx>(tcx: &'tcx TypeContext, id: &TypeId) -> Option<&'tcx Lif
 /// A definition whose lifetimes are given, where a type of a method names it.
 #[derive(Drop)]
 struct Given<'m> {
-    env: &'m LifetimeEnv,
+    direct: &'m DirectBounds<'m>,
     source: &'m str,
     definition: &'m LifetimeEnv,
     given: &'m [MaybeStatic<Lifetime>],
@@ -112,10 +110,10 @@ impl Given<'_> {
         errors: &mut ErrorStore<'_>,
     ) -> Result<(), NoMemory>
         ensures { OnOk result (errors.new ≡ added errors.old (named_written_errors
-            self.now.env.now self.now.source.now self.now.definition.now self.now.given.now
+            self.now.direct.now self.now.source.now self.now.definition.now self.now.given.now
             written.now lifetime)) }
     {
-        match shorter_of(self.env, self.source, lifetime) {
+        match shorter_of(self.direct, self.source, lifetime) {
             Some(shorter) => self.tell_all_longer(alloc, &shorter, written, errors),
             None => Ok(()),
         }
@@ -129,7 +127,7 @@ impl Given<'_> {
         written: &BoundedLifetime,
         errors: &mut ErrorStore<'_>,
     ) -> Result<(), NoMemory>
-        ensures { OnOk result (errors.new ≡ added errors.old (written_errors self.now.env.now
+        ensures { OnOk result (errors.new ≡ added errors.old (written_errors self.now.direct.now
             self.now.source.now self.now.definition.now self.now.given.now
             (number, written.now))) }
     {
@@ -149,7 +147,7 @@ impl Given<'_> {
         errors: &mut ErrorStore<'_>,
     ) -> Result<(), NoMemory>
         ensures { OnOk result (errors.new ≡ added errors.old (where_any (λ written.
-            written_errors self.now.env.now self.now.source.now self.now.definition.now
+            written_errors self.now.direct.now self.now.source.now self.now.definition.now
             self.now.given.now (number, written))
             (slice_get self.now.definition.now.bounds number))) }
     {
@@ -161,7 +159,7 @@ impl Given<'_> {
 
     /// Tells of all that the definition writes.
     fn tell_all(&self, alloc: Global, errors: &mut ErrorStore<'_>) -> Result<(), NoMemory>
-        ensures { OnOk result (errors.new ≡ added errors.old (definition_errors self.now.env.now
+        ensures { OnOk result (errors.new ≡ added errors.old (definition_errors self.now.direct.now
             self.now.source.now self.now.given.now self.now.definition.now)) }
     {
         for number in 0..self.definition.num_lifetimes() {
@@ -174,7 +172,7 @@ impl Given<'_> {
 /// A type of a method: its lifetimes, and where it stands.
 #[derive(Clone, Copy)]
 struct Where<'m> {
-    env: &'m LifetimeEnv,
+    direct: &'m DirectBounds<'m>,
     source: &'m str,
 }
 
@@ -187,13 +185,14 @@ fn tell_definition(
     given: &[MaybeStatic<Lifetime>],
     errors: &mut ErrorStore<'_>,
 ) -> Result<(), NoMemory>
-    ensures { OnOk result (errors.new ≡ added errors.old (where_any (definition_errors
-        at.now.env.now at.now.source.now given.now) (environment_at tcx.now.definitions id.now))) }
+    ensures { OnOk result (errors.new ≡ added errors.old (where_any
+        (definition_errors at.now.direct.now at.now.source.now given.now)
+        (environment_at tcx.now.definitions id.now))) }
 {
     match environment_of(tcx, id) {
         Some(definition) => {
             let all = Given {
-                env: at.env,
+                direct: at.direct,
                 source: at.source,
                 definition,
                 given,
@@ -213,9 +212,9 @@ fn tell_behind(
     errors: &mut ErrorStore<'_>,
 ) -> Result<(), NoMemory>
     ensures { OnOk result (errors.new ≡ added errors.old
-        (named_behind_errors at.now.env.now at.now.source.now given.now borrow)) }
+        (named_behind_errors at.now.direct.now at.now.source.now given.now borrow)) }
 {
-    match shorter_of(at.env, at.source, borrow) {
+    match shorter_of(at.direct, at.source, borrow) {
         Some(shorter) => shorter.tell_each_behind(alloc, given, errors),
         None => Ok(()),
     }
@@ -230,7 +229,7 @@ fn tell_borrow(
     errors: &mut ErrorStore<'_>,
 ) -> Result<(), NoMemory>
     ensures { OnOk result (errors.new ≡ added errors.old
-        (where_any (behind_errors at.now.env.now at.now.source.now given.now) borrow.now)) }
+        (where_any (behind_errors at.now.direct.now at.now.source.now given.now) borrow.now)) }
 {
     match borrow {
         Some(MaybeStatic::NonStatic(borrow)) => tell_behind(alloc, at, *borrow, given, errors),
@@ -249,7 +248,7 @@ fn tell_opaque(
     given: &[MaybeStatic<Lifetime>],
     errors: &mut ErrorStore<'_>,
 ) -> Result<(), NoMemory>
-    ensures { OnOk result (errors.new ≡ added errors.old (opaque_bound_errors at.now.env.now
+    ensures { OnOk result (errors.new ≡ added errors.old (opaque_bound_errors at.now.direct.now
         at.now.source.now tcx.now.definitions id borrow.now given.now)) }
 {
     tell_definition(alloc, tcx, at, &TypeId::Opaque(id), given, errors)?;
@@ -265,7 +264,7 @@ fn tell_implied<P: PositionTypes>(
     ty: &HirType<P>,
     errors: &mut ErrorStore<'_>,
 ) -> Result<(), NoMemory>
-    ensures { OnOk result (errors.new ≡ added errors.old (implied_errors at.now.env.now
+    ensures { OnOk result (errors.new ≡ added errors.old (implied_errors at.now.direct.now
         at.now.source.now tcx.now.definitions (whole_type P.OpaqueOwnership.borrow_of
         P.StructPath.id_of P.StructPath.lifetimes_of P.StructPath.held_of P.callback_of ty.now))) }
 {
@@ -286,17 +285,17 @@ fn tell_implied<P: PositionTypes>(
 fn tell_param(
     alloc: Global,
     tcx: &TypeContext,
-    env: &LifetimeEnv,
+    direct: &DirectBounds<'_>,
     param: &Param,
     errors: &mut ErrorStore<'_>,
 ) -> Result<(), NoMemory>
     ensures { OnOk result (errors.new ≡ added errors.old
-        (param_bound_errors tcx.now.definitions env.now param.now)) }
+        (param_bound_errors tcx.now.definitions direct.now param.now)) }
 {
     let name = param.name.as_str();
     let source = Text::from(format!(in alloc; "param {name}")?);
     let at = Where {
-        env,
+        direct,
         source: source.as_str(),
     };
     tell_implied(alloc, tcx, &at, &param.ty, errors)
@@ -306,15 +305,15 @@ fn tell_param(
 fn tell_params(
     alloc: Global,
     tcx: &TypeContext,
-    env: &LifetimeEnv,
+    direct: &DirectBounds<'_>,
     params: &[Param],
     errors: &mut ErrorStore<'_>,
 ) -> Result<(), NoMemory>
     ensures { OnOk result (errors.new ≡ added errors.old
-        (flat_map (param_bound_errors tcx.now.definitions env.now) params.now)) }
+        (flat_map (param_bound_errors tcx.now.definitions direct.now) params.now)) }
 {
     for param in params {
-        tell_param(alloc, tcx, env, param, errors)?;
+        tell_param(alloc, tcx, direct, param, errors)?;
     }
     Ok(())
 }
@@ -323,18 +322,18 @@ fn tell_params(
 fn tell_returned(
     alloc: Global,
     tcx: &TypeContext,
-    env: &LifetimeEnv,
+    direct: &DirectBounds<'_>,
     ty: Option<&OutType>,
     errors: &mut ErrorStore<'_>,
 ) -> Result<(), NoMemory>
     ensures { OnOk result (errors.new ≡ added errors.old
-        (flat_map (returned_bound_errors tcx.now.definitions env.now)
+        (flat_map (returned_bound_errors tcx.now.definitions direct.now)
         (if_any (option_copied ty.entry)))) }
 {
     match ty {
         Some(ty) => {
             let at = Where {
-                env,
+                direct,
                 source: "return type",
             };
             tell_implied(alloc, tcx, &at, ty, errors)
@@ -347,15 +346,15 @@ fn tell_returned(
 fn tell_output(
     alloc: Global,
     tcx: &TypeContext,
-    env: &LifetimeEnv,
+    direct: &DirectBounds<'_>,
     output: &ReturnType<OutputOnly>,
     errors: &mut ErrorStore<'_>,
 ) -> Result<(), NoMemory>
     ensures { OnOk result (errors.new ≡ added errors.old
-        (flat_map (returned_bound_errors tcx.now.definitions env.now) (contained output.now))) }
+        (flat_map (returned_bound_errors tcx.now.definitions direct.now) (contained output.now))) }
 {
-    tell_returned(alloc, tcx, env, output.success_type().as_type(), errors)?;
-    tell_returned(alloc, tcx, env, error_type(output), errors)
+    tell_returned(alloc, tcx, direct, output.success_type().as_type(), errors)?;
+    tell_returned(alloc, tcx, direct, error_type(output), errors)
 }
 
 /// Tells of the bounds that the types of a method of a type imply, and that it doesn't declare.
@@ -369,7 +368,7 @@ pub(crate) fn tell_bounds(
     ensures { OnOk result (errors.new
         ≡ added errors.old (method_bound_errors tcx.now.definitions method.now)) }
 {
-    let env = &method.lifetime_env;
-    tell_params(alloc, tcx, env, method.params.as_slice(), errors)?;
-    tell_output(alloc, tcx, env, &method.output, errors)
+    let direct = DirectBounds::of(alloc, &method.lifetime_env)?;
+    tell_params(alloc, tcx, &direct, method.params.as_slice(), errors)?;
+    tell_output(alloc, tcx, &direct, &method.output, errors)
 }

@@ -41,6 +41,7 @@
 
 mod bounds;
 mod callbacks;
+mod direct;
 mod methods;
 mod returned;
 mod shorter;

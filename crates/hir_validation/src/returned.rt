@@ -10,7 +10,6 @@ ghost use Rattle.hir_types.specs.Named.{lifetimes_named};
 ghost use Rattle.hir_validation.specs.Lifetimes.{is_lifetime, is_numbered, is_returned, where_number};
 ghost use Rattle.hir_validation.specs.Returned.{comes_back, element_lifetime_errors, method_returned_errors, numbered_element_errors, opaque_element_errors, param_lifetimes, returned_input_errors, returned_lifetime_errors, returned_param_errors, returned_receiver_errors, returned_reference_errors, returned_self_errors, returned_whole_errors, unknown_element_errors};
 ghost use Rattle.hir_validation.specs.WholeTypes.{whole_type};
-ghost use Rattle.hir_validation.specs.inside.Seen.{whole_seen};
 
 use crate::whole::{WholeType, whole_type};
 use bridge_decl::{NoMemory, Text};
@@ -72,7 +71,7 @@ pub(crate) fn lifetime_text(
 }
 
 /// Notes that the lifetime is known, and answers whether it wasn't.
-fn note(known: &mut BTreeSet<Lifetime>, lifetime: Lifetime) -> Result<bool, NoMemory>
+pub(crate) fn note(known: &mut BTreeSet<Lifetime>, lifetime: Lifetime) -> Result<bool, NoMemory>
     ensures first { IfOk result
         (λ first. first ≡ not (sorted.contains nat_cmp known.old lifetime)) }
     ensures known { OnOk result ((l : ℕ) → sorted.contains nat_cmp known.new l

@@ -4,31 +4,19 @@ ghost use Rattle.std.specs.Prelude.{◌≡◌, ◌∷◌, [], IfOk, OnOk, option
 ghost use Rattle.std.specs.List.{flat_map};
 ghost use Rattle.hir_reports.specs.Store.{added};
 ghost use Rattle.hir_validation.specs.ImpliedBounds.{bound_error, lacks_bound, numbered_outliving_errors, outliving_errors};
-ghost use Rattle.hir_validation.specs.Lifetimes.{is_in_list};
 
+use crate::direct::DirectBounds;
 use crate::returned::lifetime_text;
 use bridge_decl::{Items, NoMemory, Text};
-use hir_life::{BoundedLifetime, Lifetime, LifetimeEnv, MaybeStatic};
+use hir_life::{BoundedLifetime, Lifetime, MaybeStatic};
 use hir_reports::{ErrorStore, LoweringError, Rule};
 use std::alloc::Global;
 use std::marker::Model;
 
-/// Whether the lifetime is among these.
-fn is_in_list(lifetime: Lifetime, lifetimes: &[Lifetime]) -> bool
-    ensures { result ≡ is_in_list lifetime lifetimes.now }
-{
-    for other in lifetimes {
-        if lifetime.index() == other.index() {
-            return true;
-        }
-    }
-    false
-}
-
 /// A lifetime of a method that has a name, and where it is asked that others outlive it.
 #[derive(Drop)]
 pub(crate) struct Shorter<'m> {
-    env: &'m LifetimeEnv,
+    direct: &'m DirectBounds<'m>,
     source: &'m str,
     number: Lifetime,
     bounds: &'m BoundedLifetime,
@@ -41,13 +29,14 @@ impl<'m> Model for Shorter<'m> {
     ghost Value = { NamedLifetime };
 
     ghost view = { λ it. record {
-      env = it.env.now;
+      env = it.direct.now;
       source = it.source.now;
       number = it.number;
       bounds = it.bounds.now;
     } };
 
-    ghost invariant = { λ it. it.number < it.env.now.count };
+    ghost invariant = { λ it. (it.number < it.direct.now.count)
+        × (slice_get it.direct.now.bounds it.number ≡ Some it.bounds.now) };
 }
 
 impl<'m> Shorter<'m> {
@@ -56,8 +45,8 @@ impl<'m> Shorter<'m> {
         ensures { result ≡ lacks_bound self.now.env self.now.number self.now.bounds lifetime }
     {
         lifetime.index() != self.number.index()
-            && !is_in_list(lifetime, self.bounds.longer.as_slice())
-            && self.env.contains(lifetime)
+            && !self.direct.has(lifetime, self.number)
+            && self.direct.env().contains(lifetime)
     }
 
     /// The error that a bound is wanting which a definition writes, between lifetimes of these names.
@@ -72,8 +61,8 @@ impl<'m> Shorter<'m> {
         ensures { IfOk result (λ error. error ≡ bound_error self.now.env self.now.source
             self.now.number lifetime (longer.now.ident ∷ shorter.now.ident ∷ [])) }
     {
-        let above = lifetime_text(alloc, self.env, lifetime)?;
-        let below = lifetime_text(alloc, self.env, self.number)?;
+        let above = lifetime_text(alloc, self.direct.env(), lifetime)?;
+        let below = lifetime_text(alloc, self.direct.env(), self.number)?;
         let mut args = Items::new(alloc);
         args.push(Text::new(alloc, self.source)?)?;
         args.push(above)?;
@@ -92,8 +81,8 @@ impl<'m> Shorter<'m> {
         ensures { IfOk result (λ error. error
             ≡ bound_error self.now.env self.now.source self.now.number lifetime []) }
     {
-        let above = lifetime_text(alloc, self.env, lifetime)?;
-        let below = lifetime_text(alloc, self.env, self.number)?;
+        let above = lifetime_text(alloc, self.direct.env(), lifetime)?;
+        let below = lifetime_text(alloc, self.direct.env(), self.number)?;
         let mut args = Items::new(alloc);
         args.push(Text::new(alloc, self.source)?)?;
         args.push(above)?;
@@ -197,21 +186,22 @@ impl<'m> Shorter<'m> {
 
 /// The lifetime of that number, where it has a name.
 pub(crate) fn shorter_of<'m>(
-    env: &'m LifetimeEnv,
+    direct: &'m DirectBounds<'m>,
     source: &'m str,
     number: Lifetime,
 ) -> Option<Shorter<'m>>
     ensures { result ≡ option_map (λ bounds. record {
-      env = env.now;
+      env = direct.now;
       source = source.now;
       number = number;
       bounds = bounds;
-    }) (slice_get env.now.bounds number) }
+    }) (slice_get direct.now.bounds number) }
 {
+    let env = direct.env();
     let _named = env.num_lifetimes();
     match env.get_bounds(number) {
         Some(bounds) => Some(Shorter {
-            env,
+            direct,
             source,
             number,
             bounds,

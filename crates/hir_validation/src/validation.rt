@@ -1,6 +1,6 @@
 //! What is asked of a context, and how it is told.
 
-ghost use Rattle.std.specs.Prelude.{◌≡◌, OnOk, option_copied, option_map};
+ghost use Rattle.std.specs.Prelude.{◌≡◌, OnOk, option_map};
 ghost use Rattle.bridge_telling.specs.Telling.{one_if};
 ghost use Rattle.hir_attrs.specs.Reading.{about};
 ghost use Rattle.hir_context.specs.Lookups.{defined_at, lent_type};

@@ -1,8 +1,6 @@
 //! Types that backends visit: those of fields, of parameters and of what is returned, as a whole.
 
-ghost use Rattle.std.specs.Prelude.{◌≡◌, OnOk, not, option_and_then};
-ghost use Rattle.bridge_telling.specs.Telling.{one_if};
-ghost use Rattle.hir_attrs.specs.Reading.{about};
+ghost use Rattle.std.specs.Prelude.{◌≡◌, OnOk};
 ghost use Rattle.hir_context.specs.Lookups.{Struct, defined_at, lent_type};
 ghost use Rattle.hir_mentions.specs.Mentions.{where_any};
 ghost use Rattle.hir_reports.specs.Store.{added};
