@@ -11,7 +11,7 @@ mod parts;
 mod unfit;
 
 use accepted::{ACCEPTED, ACCEPTED_PARTS};
-use bridge_read::{InputFault, read_input};
+use bridge_read::{Input, InputFault, read_input};
 use faulty::{FAULTY_INPUTS, FAULTY_ITEMS, FAULTY_MODULES, FAULTY_OTHER_ITEMS, FAULTY_SETTINGS};
 use faulty_attrs::{FAULTY_CONDITIONS, FAULTY_DOCS, FAULTY_LITERALS, FAULTY_MARKS};
 use faulty_parts::{FAULTY_METHODS, FAULTY_TYPES, FAULTY_WORDS};
@@ -19,9 +19,9 @@ use not_json::{NOT_JSON, NOT_UTF8};
 use std::alloc::Global;
 use unfit::{UNFIT_LIFETIMES, UNFIT_NAMES};
 
-/// Whether the bytes are answered with a fault of that kind at that pointer.
-fn is_told(alloc: Global, bytes: &[u8], kind: &str, pointer: &str) -> bool {
-    match read_input(alloc, bytes) {
+/// Whether it is the fault of that kind at that pointer.
+fn is_fault(answer: &Result<Input, InputFault>, kind: &str, pointer: &str) -> bool {
+    match answer {
         Err(
             InputFault::NotDeclarations {
                 kind: told,
@@ -30,6 +30,22 @@ fn is_told(alloc: Global, bytes: &[u8], kind: &str, pointer: &str) -> bool {
         ) => told.text() == kind && at.as_str() == pointer,
         _ => false,
     }
+}
+
+/// Whether the bytes are answered with a fault of that kind at that pointer.
+fn is_told(alloc: Global, bytes: &[u8], kind: &str, pointer: &str) -> bool {
+    let answer = read_input(alloc, bytes);
+    let is_so = is_fault(&answer, kind, pointer);
+    drop(answer);
+    is_so
+}
+
+/// Whether the text is read.
+fn is_read(alloc: Global, text: &str) -> bool {
+    let answer = read_input(alloc, text.as_bytes());
+    let is_read = answer.is_ok();
+    drop(answer);
+    is_read
 }
 
 /// What a row of faults says, `kind at "pointer": input`, in this order.
@@ -56,7 +72,7 @@ fn first_untold(alloc: Global, rows: &[&str]) -> Option<usize> {
 /// The number of the first row that isn't read.
 fn first_unread(alloc: Global, rows: &[&str]) -> Option<usize> {
     for (row, text) in rows.iter().enumerate() {
-        if read_input(alloc, text.as_bytes()).is_err() {
+        if !is_read(alloc, text) {
             return Some(row);
         }
     }

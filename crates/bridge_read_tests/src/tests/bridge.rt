@@ -160,7 +160,10 @@ fn a_whole_bridge_is_read(rt: HostRuntime) -> Result<(), Fail> {
     let input = read_input(rt.alloc(), BRIDGE.as_bytes())
         .ok()
         .ok_or("an input")?;
-    assert!(rt; have_names(input.env.modules(), &["", "locale", "data"]));
-    assert!(rt; input.validator.support.iterators && !input.validator.support.accessors);
+    let has_modules = have_names(input.env.modules(), &["", "locale", "data"]);
+    let has_flags = input.validator.support.iterators && !input.validator.support.accessors;
+    drop(input);
+    assert!(rt; has_modules);
+    assert!(rt; has_flags);
     Ok(())
 }

@@ -19,28 +19,44 @@ fn has_same_names(one: &Module, other: &Module) -> bool {
     true
 }
 
-/// Whether the input is read, and each of its modules is copied.
-fn is_copied(alloc: Global, text: &str) -> bool {
-    let input = match read_input(alloc, text.as_bytes()) {
-        Ok(input) => input,
-        Err(_) => return false,
-    };
-    for module in input.env.modules() {
-        let is_same = match module.try_clone(alloc) {
-            Ok(copy) => has_same_names(module, &copy),
-            Err(_) => false,
-        };
-        if !is_same {
+/// Whether the module is copied.
+fn is_copied(alloc: Global, module: &Module) -> bool {
+    match module.try_clone(alloc) {
+        Ok(copy) => {
+            let is_same = has_same_names(module, &copy);
+            drop(copy);
+            is_same
+        }
+        Err(_) => false,
+    }
+}
+
+/// Whether each module is.
+fn are_copied(alloc: Global, modules: &[Module]) -> bool {
+    for module in modules {
+        if !is_copied(alloc, module) {
             return false;
         }
     }
     true
 }
 
+/// Whether the input is read, and each of its modules is copied.
+fn is_read_and_copied(alloc: Global, text: &str) -> bool {
+    match read_input(alloc, text.as_bytes()) {
+        Ok(input) => {
+            let is_so = are_copied(alloc, input.env.modules());
+            drop(input);
+            is_so
+        }
+        Err(_) => false,
+    }
+}
+
 /// The number of the first input of which a module isn't copied.
 fn first_uncopied(alloc: Global, rows: &[&str]) -> Option<usize> {
     for (row, text) in rows.iter().enumerate() {
-        if !is_copied(alloc, text) {
+        if !is_read_and_copied(alloc, text) {
             return Some(row);
         }
     }

@@ -62,7 +62,9 @@ fn are_modules(modules: &[Module]) -> bool {
 #[test]
 fn the_example_is_read(rt: HostRuntime) -> Result<(), Fail> {
     let input = read(rt.alloc(), PICK)?;
-    assert!(rt; are_modules(input.env.modules()));
+    let is_so = are_modules(input.env.modules());
+    drop(input);
+    assert!(rt; is_so);
     Ok(())
 }
 
@@ -94,20 +96,29 @@ fn is_base(alloc: Global, input: &Input, name: &str, url: Option<&str>) -> Resul
     Ok(input.urls.base_url(&name) == url)
 }
 
+/// Whether the URLs are those of the settings.
+fn has_urls(alloc: Global, input: &Input) -> Result<bool, Fail> {
+    let is_std = is_base(alloc, input, "std", Some("http://std.example/"))?;
+    let is_none = is_base(alloc, input, "none", None)?;
+    let is_default = input.urls.default_url() == Some("https://docs.example/");
+    Ok(is_std && is_none && is_default)
+}
+
 #[test]
 fn settings_are_read(rt: HostRuntime) -> Result<(), Fail> {
     let input = read(rt.alloc(), SETTINGS)?;
-    assert!(rt; is_backend(&input));
-    assert!(rt; input.config.unsafe_references_in_callbacks);
+    let is_so = is_backend(&input) && input.config.unsafe_references_in_callbacks;
+    drop(input);
+    assert!(rt; is_so);
     Ok(())
 }
 
 #[test]
 fn urls_are_read(rt: HostRuntime) -> Result<(), Fail> {
     let input = read(rt.alloc(), SETTINGS)?;
-    assert!(rt; input.urls.default_url() == Some("https://docs.example/"));
-    assert!(rt; is_base(rt.alloc(), &input, "std", Some("http://std.example/"))?);
-    assert!(rt; is_base(rt.alloc(), &input, "none", None)?);
+    let has_urls = has_urls(rt.alloc(), &input);
+    drop(input);
+    assert!(rt; has_urls?);
     Ok(())
 }
 
@@ -123,7 +134,9 @@ fn allows_nothing(input: &Input) -> bool {
 #[test]
 fn absent_settings_allow_nothing(rt: HostRuntime) -> Result<(), Fail> {
     let input = read(rt.alloc(), r#"{"root":{},"backend":null}"#)?;
-    assert!(rt; allows_nothing(&input));
+    let is_so = allows_nothing(&input);
+    drop(input);
+    assert!(rt; is_so);
     Ok(())
 }
 
@@ -156,6 +169,8 @@ fn have_paths(modules: &[Module], paths: &[&[&str]]) -> bool {
 fn modules_are_listed_before_those_inside_them(rt: HostRuntime) -> Result<(), Fail> {
     let input = read(rt.alloc(), NESTED)?;
     let paths: [&[&str]; 5] = [&[], &["m"], &["m", "n"], &["m", "o"], &["p"]];
-    assert!(rt; have_paths(input.env.modules(), &paths));
+    let is_so = have_paths(input.env.modules(), &paths);
+    drop(input);
+    assert!(rt; is_so);
     Ok(())
 }

@@ -98,7 +98,10 @@ fn number_of(param: &Param) -> Option<i128> {
 /// The number that stands for a parameter whose mark gives it this value.
 fn number_given(alloc: Global, value: Option<i128>) -> Result<Option<i128>, Fail> {
     let name = IdentBuf::new(alloc, "depth")?;
-    Ok(number_of(&param(alloc, name, value)))
+    let made = param(alloc, name, value);
+    let number = number_of(&made);
+    drop(made);
+    Ok(number)
 }
 
 #[test]
@@ -130,7 +133,9 @@ fn a_method_has_all_its_lifetimes(rt: HostRuntime) -> Result<(), Fail> {
     let alloc = rt.alloc();
     let mut method = function(alloc, "find")?;
     method.lifetime_env = LifetimeEnv::new(Items::new(alloc), 3);
-    compare_lifetimes(&rt, alloc, &method)
+    let compared = compare_lifetimes(&rt, alloc, &method);
+    drop(method);
+    compared
 }
 
 /// Whether what is asked of a type is as its name says, and as something iterates over it or not.
@@ -151,6 +156,7 @@ fn compare(rt: &impl Abort, def: TypeDef<'_>, name: &str, iterable: bool) {
 fn structs_are_asked_as_types(rt: HostRuntime) -> Result<(), Fail> {
     let def = input_struct(rt.alloc(), "Line", 0, &[])?;
     compare(&rt, TypeDef::Struct(&def), "Line", false);
+    drop(def);
     Ok(())
 }
 
@@ -158,6 +164,7 @@ fn structs_are_asked_as_types(rt: HostRuntime) -> Result<(), Fail> {
 fn out_structs_are_asked_as_types(rt: HostRuntime) -> Result<(), Fail> {
     let def = out_struct(rt.alloc(), "Found", 0)?;
     compare(&rt, TypeDef::OutStruct(&def), "Found", false);
+    drop(def);
     Ok(())
 }
 
@@ -165,6 +172,7 @@ fn out_structs_are_asked_as_types(rt: HostRuntime) -> Result<(), Fail> {
 fn opaques_are_asked_as_types(rt: HostRuntime) -> Result<(), Fail> {
     let def = opaque(rt.alloc(), "Page", 0, Some(4))?;
     compare(&rt, TypeDef::from(&def), "Page", true);
+    drop(def);
     Ok(())
 }
 
@@ -172,5 +180,6 @@ fn opaques_are_asked_as_types(rt: HostRuntime) -> Result<(), Fail> {
 fn enums_are_asked_as_types(rt: HostRuntime) -> Result<(), Fail> {
     let def = enumeration(rt.alloc(), "Color")?;
     compare(&rt, TypeDef::from(&def), "Color", false);
+    drop(def);
     Ok(())
 }

@@ -68,7 +68,9 @@ fn callbacks_say_what_they_take_and_return(rt: HostRuntime) {
     assert!(rt; asked::<Callback>(None) == (None, false));
     assert!(rt; asked::<NoCallback>(None) == (None, false));
     let callback = callback(rt.alloc());
-    assert!(rt; says_all(&callback));
+    let says_all = says_all(&callback);
+    drop(callback);
+    assert!(rt; says_all);
 }
 
 #[test]

@@ -149,6 +149,7 @@ type InType = HirType<InputOnly>;
 fn compare_held(rt: &impl Abort, alloc: Global, owner: MaybeOwn, row: &Row) -> Result<(), Fail> {
     let ty: InType = HirType::Struct(structure(alloc, &[], owner)?);
     tell(rt, &ty, row);
+    drop(ty);
     Ok(())
 }
 
@@ -170,18 +171,21 @@ fn structs_come_in_by_themselves_and_behind_pointers(rt: HostRuntime) -> Result<
 fn callbacks_name_no_definition(rt: HostRuntime) {
     let ty: InType = HirType::Callback(callback(rt.alloc()));
     tell(&rt, &ty, &PLAIN);
+    drop(ty);
 }
 
 #[test]
 fn traits_name_no_definition(rt: HostRuntime) {
     let ty: InType = HirType::ImplTrait(trait_path(rt.alloc()));
     tell(&rt, &ty, &PLAIN);
+    drop(ty);
 }
 
 #[test]
 fn lists_of_texts_name_no_definition(rt: HostRuntime) {
     let ty: InType = HirType::Slice(Slice::Strs(StringEncoding::Utf8));
     tell(&rt, &ty, &PLAIN);
+    drop(ty);
 }
 
 #[test]
@@ -189,5 +193,6 @@ fn slices_name_no_definition(rt: HostRuntime) -> Result<(), Fail> {
     let element = opaque(rt.alloc(), &[], true, shared(0))?;
     let ty: OutType = HirType::Slice(Slice::Opaque(MaybeOwn::Borrow(shared(1)), element));
     tell(&rt, &ty, &PLAIN);
+    drop(ty);
     Ok(())
 }

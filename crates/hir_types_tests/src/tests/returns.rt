@@ -157,7 +157,9 @@ fn is_returned(alloc: Global, returned: &Returned, row: &ReturnRow) -> Result<bo
 /// Whether a copy is.
 fn is_copied(alloc: Global, returned: &Returned, row: &ReturnRow) -> Result<bool, Fail> {
     let copy = returned.try_clone(alloc)?;
-    is_returned(alloc, &copy, row)
+    let is_returned = is_returned(alloc, &copy, row);
+    drop(copy);
+    is_returned
 }
 
 /// Whether the return and a copy of it are.
@@ -168,7 +170,9 @@ fn are_both(alloc: Global, returned: &Returned, row: &ReturnRow) -> Result<bool,
 /// Whether the return of the row's name and a copy of it are.
 fn are_returned(alloc: Global, row: &ReturnRow) -> Result<bool, Fail> {
     let returned = returned(alloc, row.0)?;
-    are_both(alloc, &returned, row)
+    let are_both = are_both(alloc, &returned, row);
+    drop(returned);
+    are_both
 }
 
 #[test]

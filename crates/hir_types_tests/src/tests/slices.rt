@@ -22,9 +22,12 @@ fn held() -> MaybeOwn {
 /// Compares the slice's own lifetime, and all of it as a type, with these numbers, where none
 /// stands for `'static`.
 fn compare(rt: &impl Abort, slice: InSlice, own: Own, all: &[Option<usize>]) {
-    assert!(rt; slice.lifetime().copied() == own.map(lifetime));
+    let has_own = slice.lifetime().copied() == own.map(lifetime);
     let ty: HirType<InputOnly> = HirType::Slice(slice);
-    assert!(rt; has_lifetimes(&ty, all));
+    let has_all = has_lifetimes(&ty, all);
+    drop(ty);
+    assert!(rt; has_own);
+    assert!(rt; has_all);
 }
 
 /// Texts of these lifetimes, and all lifetimes of each.
