@@ -159,8 +159,9 @@ impl Given<'_> {
 
     /// Tells of all that the definition writes.
     fn tell_all(&self, alloc: Global, errors: &mut ErrorStore<'_>) -> Result<(), NoMemory>
-        ensures { OnOk result (errors.new ≡ added errors.old (definition_errors self.now.direct.now
-            self.now.source.now self.now.given.now self.now.definition.now)) }
+        ensures { OnOk result (errors.new ≡ added errors.old (definition_errors
+            self.now.direct.now self.now.source.now self.now.given.now
+            self.now.definition.now)) }
     {
         for number in 0..self.definition.num_lifetimes() {
             self.tell_number(alloc, number, errors)?;
