@@ -13,8 +13,9 @@
 //!
 //! A [`Text`] owns its bytes, and contracts see it as the list of them: two texts made apart, both `shorter`, are one
 //! value, so a copy is equal to what it was made of and a text can be the key of a map. [`clone_items`],
-//! [`clone_option`] and [`clone_texts`] carry this over to lists and to what may be absent. A call that only takes
-//! memory has [`NoMemory`] as its one error.
+//! [`clone_option`] and [`clone_texts`] carry this over to lists and to what may be absent. A short one, as most names
+//! are, lies in the value itself and takes no memory of its own. A call that only takes memory has [`NoMemory`] as its
+//! one error.
 //!
 //! # Identifiers
 //!

@@ -5,6 +5,7 @@ ghost use Rattle.std.specs.Cmp.{partial_equiv_from_equiv};
 ghost use Rattle.std.specs.Cmp.Lexicographic.{pointwise, slice_cmp, nat_list_eq_equiv, nat_list_cmp_total, texts_ties, texts_po};
 ghost use Rattle.std.specs.Ordering.{nat_cmp};
 
+use arrayvec::ArrayString;
 use std::alloc::{AllocError, Global};
 use std::cmp::Ordering;
 use std::fmt;
@@ -13,18 +14,26 @@ use std::marker::Model;
 /// Want of memory: the one error of a call that only takes memory.
 pub type NoMemory = AllocError;
 
+/// Where the bytes of a text lie: in the value itself if there are 16 at most, as in most names, so that they take no memory of their own.
+#[derive(Drop)]
+enum Kept {
+    Short(ArrayString<16>),
+    Long(String),
+}
+
 /// A text that contracts see as its bytes, so that equal texts are equal values.
 #[derive(Drop)]
 pub struct Text {
-    text: String,
+    kept: Kept,
 }
 
 impl Model for Text {
-    ghost use Rattle.std.specs.Prelude.{List, ℕ, string_bytes};
+    ghost use Rattle.std.specs.Prelude.{List, ℕ};
+    ghost use Rattle.bridge_text.specs.inside.Kept.{kept_bytes};
 
     ghost Value = { List ℕ };
 
-    ghost view = { λ it. string_bytes it.text };
+    ghost view = { λ it. kept_bytes it.kept };
 }
 
 impl Text {
@@ -32,9 +41,11 @@ impl Text {
     pub fn new(alloc: Global, s: &str) -> Result<Text, NoMemory>
         ensures { IfOk result (λ t. t ≡ s.now) }
     {
-        Ok(Text {
-            text: String::from_str(alloc, s)?,
-        })
+        let kept = match ArrayString::from(s) {
+            Ok(short) => Kept::Short(short),
+            Err(_) => Kept::Long(String::from_str(alloc, s)?),
+        };
+        Ok(Text { kept })
     }
 
     /// The three texts one after another, as one.
@@ -49,14 +60,17 @@ impl Text {
         let mut text = String::from_str(alloc, front)?;
         text.push_str(middle)?;
         text.push_str(back)?;
-        Ok(Text { text })
+        Ok(Text::from(text))
     }
 
     /// The text, lent.
     pub fn as_str(&self) -> &str
         ensures { result.now ≡ self.now }
     {
-        self.text.as_str()
+        match &self.kept {
+            Kept::Short(text) => text.as_str(),
+            Kept::Long(text) => text.as_str(),
+        }
     }
 
     /// A copy, which is equal to the text.
@@ -67,14 +81,18 @@ impl Text {
     }
 }
 
-/// The string's bytes as a text: they are moved, and not copied.
+/// The string's bytes as a text: those of a long one are moved, and not copied.
 impl From<String> for Text {
     ghost use Rattle.std.specs.Prelude.{◌≡◌, string_bytes};
 
     ghost from_gives = { λ string text. text ≡ string_bytes string };
 
     fn from(string: String) -> Text {
-        Text { text: string }
+        let kept = match ArrayString::from(string.as_str()) {
+            Ok(short) => Kept::Short(short),
+            Err(_) => Kept::Long(string),
+        };
+        Text { kept }
     }
 }
 

@@ -87,6 +87,10 @@ fn texts_are_keys(rt: HostRuntime) -> Result<(), NoMemory> {
     Ok(())
 }
 
+// The longest text that lies in the value itself, and one longer by a byte.
+const SIXTEEN: &str = "abcdefghijklmn\u{ef}";
+const SEVENTEEN: &str = "abcdefghijklmno\u{ef}";
+
 #[test]
 fn texts_compare_by_bytes(rt: HostRuntime) -> Result<(), NoMemory> {
     let cases = [
@@ -96,6 +100,9 @@ fn texts_compare_by_bytes(rt: HostRuntime) -> Result<(), NoMemory> {
         ("ab", "abc", Ordering::Less),
         ("Z", "a", Ordering::Less),
         ("é", "z", Ordering::Greater),
+        (SIXTEEN, SEVENTEEN, Ordering::Greater),
+        ("b", SEVENTEEN, Ordering::Greater),
+        (SEVENTEEN, SEVENTEEN, Ordering::Equal),
     ];
     for (first, second, order) in cases {
         let first = Text::new(rt.alloc(), first)?;
@@ -109,15 +116,17 @@ fn texts_compare_by_bytes(rt: HostRuntime) -> Result<(), NoMemory> {
 
 #[test]
 fn texts_are_copied_and_printed(rt: HostRuntime) -> Result<(), NoMemory> {
-    let text = Text::new(rt.alloc(), "na\u{ef}ve")?;
-    assert!(rt; text.try_clone(rt.alloc())?.as_str() == "naïve");
-    assert!(rt; text.to_string(rt.alloc())?.as_str() == "naïve");
+    for word in ["na\u{ef}ve", SIXTEEN, SEVENTEEN] {
+        let text = Text::new(rt.alloc(), word)?;
+        assert!(rt; text.try_clone(rt.alloc())?.as_str() == word);
+        assert!(rt; text.to_string(rt.alloc())?.as_str() == word);
+    }
     Ok(())
 }
 
 #[test]
 fn a_string_is_a_text_of_its_bytes(rt: HostRuntime) -> Result<(), NoMemory> {
-    for word in ["", "ab", "na\u{ef}ve"] {
+    for word in ["", "ab", "na\u{ef}ve", SIXTEEN, SEVENTEEN] {
         let text = Text::from(String::from_str(rt.alloc(), word)?);
         assert!(rt; text.as_str() == word);
         assert!(rt; text == Text::new(rt.alloc(), word)?);

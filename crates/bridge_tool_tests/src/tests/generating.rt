@@ -23,35 +23,47 @@ fn is_summary(alloc: Global, report: &BridgeReport, text: &str) -> bool {
 /// Whether the declarations break no rule under the settings of an input, and this is their summary.
 fn sum_up_under(alloc: Global, env: &Env, settings: &Input, text: &str) -> bool {
     match lower_and_borrow(alloc, env, settings.config, &settings.validator) {
-        Ok(report) => is_summary(alloc, &report, text),
-        Err(_) => false,
+        Ok(report) => {
+            let is_so = is_summary(alloc, &report, text);
+            drop(report);
+            is_so
+        }
+        Err(refused) => {
+            drop(refused);
+            false
+        }
     }
 }
 
 /// The same where functions outside of types are supported.
 fn sum_up_to(alloc: Global, env: &Env, text: &str) -> bool {
     match read_input(alloc, FUNCTIONS.as_bytes()) {
-        Ok(settings) => sum_up_under(alloc, env, &settings, text),
-        Err(_) => false,
+        Ok(settings) => {
+            let is_so = sum_up_under(alloc, env, &settings, text);
+            drop(settings);
+            is_so
+        }
+        Err(fault) => {
+            drop(fault);
+            false
+        }
     }
 }
 
-/// Compares the summary of declarations.
-fn compare(rt: &impl Abort, alloc: Global, env: &Env, text: &str) {
-    assert!(rt; sum_up_to(alloc, env, text));
+/// Whether so many generated declarations break no rule, and this is their summary.
+fn generated_sum_up_to(alloc: Global, count: usize, text: &str) -> Result<bool, AllocError> {
+    let env = generated(alloc, count)?;
+    let is_so = sum_up_to(alloc, &env, text);
+    drop(env);
+    Ok(is_so)
 }
 
 #[test]
-fn eight_generated_break_no_rule(rt: HostRuntime) -> Result<(), AllocError> {
-    let env = generated(rt.alloc(), 8)?;
-    compare(&rt, rt.alloc(), &env, "callables 8\nlisted 44\nok\n");
-    Ok(())
-}
-
-#[test]
-fn ten_thousand_generated_break_no_rule(rt: HostRuntime) -> Result<(), AllocError> {
-    let env = generated(rt.alloc(), 10000)?;
-    compare(&rt, rt.alloc(), &env, "callables 10000\nlisted 55000\nok\n");
+fn generated_declarations_break_no_rule(rt: HostRuntime) -> Result<(), AllocError> {
+    let eight = "callables 8\nlisted 44\nok\n";
+    assert!(rt; generated_sum_up_to(rt.alloc(), 8, eight)?);
+    let many = "callables 10000\nlisted 55000\nok\n";
+    assert!(rt; generated_sum_up_to(rt.alloc(), 10000, many)?);
     Ok(())
 }
 
@@ -142,10 +154,12 @@ fn over_failing(alloc: Global, write: usize) -> Result<Option<(u8, usize)>, Allo
     let mut source = MemSource::new(alloc, FUNCTIONS.as_bytes(), 1, &[0])?;
     let mut sink = MemSink::new(alloc, 10, &[write])?;
     let end = run(alloc, &words, &mut source, &mut sink);
-    if !b"callables 8\nlisted 44\nok\n".starts_with(sink.bytes()) {
-        return Ok(None);
-    }
-    Ok(Some((end, sink.bytes().len())))
+    let is_begun = b"callables 8\nlisted 44\nok\n".starts_with(sink.bytes());
+    let taken = sink.bytes().len();
+    drop(sink);
+    drop(source);
+    drop(words);
+    Ok(if is_begun { Some((end, taken)) } else { None })
 }
 
 // The writes that fail, with the status and the bytes taken. The summary has 25 bytes: in pieces of 10, three writes.

@@ -25,7 +25,10 @@ pub fn runs_to(
     let mut source = PlainSource::new(input.as_bytes());
     let mut sink = PlainSink::new(alloc);
     let end = run(alloc, &words, &mut source, &mut sink);
-    Ok(end == status && sink.bytes() == text.as_bytes())
+    let is_so = end == status && sink.bytes() == text.as_bytes();
+    drop(sink);
+    drop(words);
+    Ok(is_so)
 }
 
 #[test]
@@ -66,10 +69,11 @@ fn over_failing(
     let mut source = MemSource::new(alloc, PICK.as_bytes(), piece.max(1), &[read])?;
     let mut sink = MemSink::new(alloc, piece.max(1), &[write])?;
     let end = run(alloc, &[], &mut source, &mut sink);
-    if !PICK_PAGE.as_bytes().starts_with(sink.bytes()) {
-        return Ok(None);
-    }
-    Ok(Some((end, sink.bytes().len())))
+    let is_begun = PICK_PAGE.as_bytes().starts_with(sink.bytes());
+    let taken = sink.bytes().len();
+    drop(sink);
+    drop(source);
+    Ok(if is_begun { Some((end, taken)) } else { None })
 }
 
 // Lengths of pieces, the read and the write that fail, the status, and the bytes taken. The input has 392 bytes and its page 77: in
@@ -109,11 +113,10 @@ fn run_on_spaces(alloc: Global, count: usize, text: &str) -> Result<Option<u8>, 
     let mut source = PlainSource::new(&spaces);
     let mut sink = PlainSink::new(alloc);
     let end = run(alloc, &[], &mut source, &mut sink);
-    if sink.bytes() == text.as_bytes() {
-        Ok(Some(end))
-    } else {
-        Ok(None)
-    }
+    let is_so = sink.bytes() == text.as_bytes();
+    drop(sink);
+    drop(spaces);
+    Ok(if is_so { Some(end) } else { None })
 }
 
 #[test]
