@@ -117,7 +117,7 @@ fn node_fault(expected: Option<(EnvFaultKind, usize, Option<usize>)>) -> Option<
 fn first_faults_of_lifetimes(rt: HostRuntime) -> Result<(), Fail> {
     for (row, (nodes, expected)) in LIFETIMES.iter().enumerate() {
         let fault = fault_with(rt.alloc(), environment(rt.alloc(), nodes)?)?;
-        assert_eq!(rt; fault, node_fault(*expected), "in row {row}");
+        assert!(rt; fault == node_fault(*expected), "in row {row}");
     }
     Ok(())
 }

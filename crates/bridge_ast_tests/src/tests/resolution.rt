@@ -3,7 +3,6 @@
 use super::declared::{Declared, modules, trait_at, type_at};
 use bridge_ast::Env;
 use std::alloc::Global;
-use std::process::Abort;
 use std::test::Fail;
 
 /// Paths by the module in which they are read, and the number of the module and of the item that each names, worked out by hand.
@@ -40,41 +39,6 @@ const PATHS: [Row; 11] = [
 
 /// Paths to traits.
 const TRAITS: [Row; 2] = [(0, "trait T", Some((0, 1))), (0, "R", None)];
-
-fn environment(alloc: Global, declared: &[Declared]) -> Result<Env, Fail> {
-    Ok(Env::new(alloc, modules(alloc, declared)?)?)
-}
-
-#[test]
-fn types_that_paths_name(rt: HostRuntime) -> Result<(), Fail> {
-    let env = environment(rt.alloc(), &DECLARED)?;
-    for (in_module, paths, expected) in PATHS {
-        for path in paths.split_whitespace() {
-            let named = type_at(rt.alloc(), &env, in_module, path)?;
-            assert_eq!(rt; named, expected, "of {path} in {in_module}");
-        }
-    }
-    Ok(())
-}
-
-#[test]
-fn traits_that_paths_name(rt: HostRuntime) -> Result<(), Fail> {
-    let env = environment(rt.alloc(), &DECLARED)?;
-    for (in_module, paths, expected) in TRAITS {
-        for path in paths.split_whitespace() {
-            let named = trait_at(rt.alloc(), &env, in_module, path)?;
-            assert_eq!(rt; named, expected, "of {path} in {in_module}");
-        }
-    }
-    Ok(())
-}
-
-#[test]
-fn as_many_modules_as_are_declared(rt: HostRuntime) -> Result<(), Fail> {
-    let env = environment(rt.alloc(), &DECLARED)?;
-    assert!(rt; env.modules().len() == 3);
-    Ok(())
-}
 
 /// Modules with cycles of aliases.
 const BRANCHED: [Declared; 3] = [
@@ -137,42 +101,106 @@ const DOUBLED_PATHS: [Row; 2] = [
     (0, "self::d3::R self::d3::d1::R", Some((0, 0))),
 ];
 
-/// The place of the type or trait that a path names.
+/// What a path is to name.
+#[derive(Clone, Copy)]
+enum Sought {
+    Type,
+    Trait,
+    Either,
+}
+
+/// The place of what is sought, if the path names it.
 fn place_at(
     alloc: Global,
     env: &Env,
+    sought: Sought,
     in_module: usize,
     path: &str,
 ) -> Result<Option<(usize, usize)>, Fail> {
-    match trait_at(alloc, env, in_module, path)? {
-        Some(place) => Ok(Some(place)),
-        None => type_at(alloc, env, in_module, path),
+    let place = match sought {
+        Sought::Type => None,
+        Sought::Trait | Sought::Either => trait_at(alloc, env, in_module, path)?,
+    };
+    match (sought, place) {
+        (Sought::Type, _) | (Sought::Either, None) => type_at(alloc, env, in_module, path),
+        (Sought::Trait, _) | (Sought::Either, Some(_)) => Ok(place),
     }
 }
 
-/// The paths of the rows name what the rows say, in an environment of these modules.
-fn rows_hold(
-    rt: &impl Abort,
+/// The first path of a row that doesn't name what the row says.
+fn wrong_in<'r>(
     alloc: Global,
-    declared: &[Declared],
-    rows: &[Row],
-) -> Result<(), Fail> {
-    let env = environment(alloc, declared)?;
-    for (in_module, paths, expected) in rows {
-        for path in paths.split_whitespace() {
-            let named = place_at(alloc, &env, *in_module, path)?;
-            assert_eq!(rt; named, *expected, "of {path} in {in_module}");
+    env: &Env,
+    sought: Sought,
+    row: &'r Row,
+) -> Result<Option<&'r str>, Fail> {
+    for path in row.1.split_whitespace() {
+        if place_at(alloc, env, sought, row.0, path)? != row.2 {
+            return Ok(Some(path));
         }
     }
+    Ok(None)
+}
+
+/// The first path of the rows that doesn't name what its row says.
+fn first_wrong<'r>(
+    alloc: Global,
+    env: &Env,
+    sought: Sought,
+    rows: &'r [Row],
+) -> Result<Option<&'r str>, Fail> {
+    for row in rows {
+        let wrong = wrong_in(alloc, env, sought, row)?;
+        if wrong.is_some() {
+            return Ok(wrong);
+        }
+    }
+    Ok(None)
+}
+
+/// The same in an environment of these modules, of which there are as many.
+fn first_wrong_among(
+    alloc: Global,
+    declared: &[Declared],
+    sought: Sought,
+    rows: &'static [Row],
+) -> Result<Option<&'static str>, Fail> {
+    let env = Env::new(alloc, modules(alloc, declared)?)?;
+    let are_all = env.modules().len() == declared.len();
+    let found = first_wrong(alloc, &env, sought, rows);
+    drop(env);
+    let wrong = found?;
+    if are_all {
+        Ok(wrong)
+    } else {
+        Err(Fail::from("there aren't as many modules"))
+    }
+}
+
+#[test]
+fn types_that_paths_name(rt: HostRuntime) -> Result<(), Fail> {
+    let wrong = first_wrong_among(rt.alloc(), &DECLARED, Sought::Type, &PATHS)?;
+    assert_eq!(rt; wrong, None);
+    Ok(())
+}
+
+#[test]
+fn traits_that_paths_name(rt: HostRuntime) -> Result<(), Fail> {
+    let wrong = first_wrong_among(rt.alloc(), &DECLARED, Sought::Trait, &TRAITS)?;
+    assert_eq!(rt; wrong, None);
     Ok(())
 }
 
 #[test]
 fn types_and_traits_that_paths_name(rt: HostRuntime) -> Result<(), Fail> {
-    rows_hold(&rt, rt.alloc(), &BRANCHED, &BRANCHED_PATHS)
+    let wrong = first_wrong_among(rt.alloc(), &BRANCHED, Sought::Either, &BRANCHED_PATHS)?;
+    assert_eq!(rt; wrong, None);
+    Ok(())
 }
 
 #[test]
 fn paths_of_as_many_aliases_as_are_followed(rt: HostRuntime) -> Result<(), Fail> {
-    rows_hold(&rt, rt.alloc(), &DOUBLED, &DOUBLED_PATHS)
+    let wrong = first_wrong_among(rt.alloc(), &DOUBLED, Sought::Either, &DOUBLED_PATHS)?;
+    assert_eq!(rt; wrong, None);
+    Ok(())
 }

@@ -91,8 +91,8 @@ const FIRST_ITEM: EnvPlace = EnvPlace {
 #[test]
 fn first_faults_of_names(rt: HostRuntime) -> Result<(), Fail> {
     for (row, (declared, expected)) in NAMES.iter().enumerate() {
-        let made = Env::new(rt.alloc(), modules(rt.alloc(), declared)?);
-        assert_eq!(rt; fault_of(made), *expected, "in row {row}");
+        let fault = fault_of(Env::new(rt.alloc(), modules(rt.alloc(), declared)?));
+        assert!(rt; fault == *expected, "in row {row}");
     }
     Ok(())
 }
