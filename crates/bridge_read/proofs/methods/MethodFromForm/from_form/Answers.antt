@@ -14,3 +14,12 @@ returns-in_err-docs c =
     let signed = c.in_ok-signature.ensures _ (view c.args.value) head.1 in
     let stops = c.in_err-docs.ensures _ (view c.args.value) signed.1 in
     rw (p.1, p.2, opens.0, head.0, signed.0) (stops_on c.in_err-docs.field-0.0 _ _ stops)
+
+pub returns-in_err-signature : goal.returns-in_err-signature
+unfolding method method_head signature documented
+returns-in_err-signature c =
+    let p = err_from_is_err_and c.from_residual-in_err-signature.result c.from_residual-in_err-signature.ensures.1 in
+    let opens = c.in_ok-left.ensures in
+    let head = c.in_ok-head.ensures _ (view c.args.value) opens.1 in
+    let stops = c.in_err-signature.ensures _ (view c.args.value) head.1 in
+    rw (p.1, p.2, opens.0, head.0) (stops_on c.in_err-signature.field-0.0 _ _ stops)
