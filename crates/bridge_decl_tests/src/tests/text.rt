@@ -89,6 +89,7 @@ fn texts_are_keys(rt: HostRuntime) -> Result<(), NoMemory> {
 
 // The longest text that lies in the value itself, and one longer by a byte.
 const SIXTEEN: &str = "abcdefghijklmn\u{ef}";
+
 const SEVENTEEN: &str = "abcdefghijklmno\u{ef}";
 
 #[test]
