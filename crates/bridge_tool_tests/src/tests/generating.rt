@@ -8,7 +8,6 @@ use bridge_tool::{
     BridgeReport, Input, MemSink, MemSource, PlainSink, lower_and_borrow, read_input, run,
 };
 use std::alloc::{AllocError, Global};
-use std::process::Abort;
 
 // No declaration, and a backend with functions outside of types.
 const FUNCTIONS: &str = r#"{"root":{},"backend":{"supports":["free_functions"]}}"#;
@@ -50,20 +49,21 @@ fn sum_up_to(alloc: Global, env: &Env, text: &str) -> bool {
     }
 }
 
-/// Whether so many generated declarations break no rule, and this is their summary.
-fn generated_sum_up_to(alloc: Global, count: usize, text: &str) -> Result<bool, AllocError> {
-    let env = generated(alloc, count)?;
-    let is_so = sum_up_to(alloc, &env, text);
+#[test]
+fn eight_generated_break_no_rule(rt: HostRuntime) -> Result<(), AllocError> {
+    let env = generated(rt.alloc(), 8)?;
+    let is_so = sum_up_to(rt.alloc(), &env, "callables 8\nlisted 44\nok\n");
     drop(env);
-    Ok(is_so)
+    assert!(rt; is_so);
+    Ok(())
 }
 
 #[test]
-fn generated_declarations_break_no_rule(rt: HostRuntime) -> Result<(), AllocError> {
-    let eight = "callables 8\nlisted 44\nok\n";
-    assert!(rt; generated_sum_up_to(rt.alloc(), 8, eight)?);
-    let many = "callables 10000\nlisted 55000\nok\n";
-    assert!(rt; generated_sum_up_to(rt.alloc(), 10000, many)?);
+fn ten_thousand_generated_break_no_rule(rt: HostRuntime) -> Result<(), AllocError> {
+    let env = generated(rt.alloc(), 10000)?;
+    let is_so = sum_up_to(rt.alloc(), &env, "callables 10000\nlisted 55000\nok\n");
+    drop(env);
+    assert!(rt; is_so);
     Ok(())
 }
 
