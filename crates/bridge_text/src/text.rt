@@ -22,9 +22,15 @@ enum Kept {
 }
 
 /// A text that contracts see as its bytes, so that equal texts are equal values.
-#[derive(Drop)]
 pub struct Text {
     kept: Kept,
+}
+
+/// By hand, so that where a text is let go the proof has one call, and not the ways that it may be kept in.
+impl Drop for Text {
+    fn drop(self) {
+        let Text { kept: _ } = self;
+    }
 }
 
 impl Model for Text {
