@@ -18,12 +18,23 @@ use std::alloc::{AllocError, Global};
 use std::marker::Model;
 
 /// Modules whose names and bounds fit together. Contracts see the list of the modules.
-#[derive(Drop)]
 pub struct Env {
     pub(crate) modules: Items<Module>,
     pub(crate) scopes: Items<Scope>,
     pub(crate) ends: Ends,
     pub(crate) aliases: usize,
+}
+
+/// By hand, so that where one is let go the proof has one call.
+impl Drop for Env {
+    fn drop(self) {
+        let Env {
+            modules: _,
+            scopes: _,
+            ends: _,
+            aliases: _,
+        } = self;
+    }
 }
 
 impl Model for Env {

@@ -7,7 +7,6 @@ use sqlite_items::{Boxed, Items};
 use std::alloc::Global;
 
 /// The attributes of one declaration, as written.
-#[derive(Drop)]
 pub struct Attrs {
     /// The features that the declaration stands under.
     pub features: Items<Text>,
@@ -17,6 +16,18 @@ pub struct Attrs {
     pub abi_rename: RenameAttr,
     /// The note of a deprecated declaration.
     pub deprecated: Option<Text>,
+}
+
+/// By hand, so that where one is let go the proof has one call.
+impl Drop for Attrs {
+    fn drop(self) {
+        let Attrs {
+            features: _,
+            marks: _,
+            abi_rename: _,
+            deprecated: _,
+        } = self;
+    }
 }
 
 impl Attrs {

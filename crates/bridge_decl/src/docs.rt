@@ -8,12 +8,21 @@ use sqlite_items::Items;
 use std::alloc::Global;
 
 /// What documents one declaration.
-#[derive(Drop)]
 pub struct Docs {
     /// The blocks of text, in order.
     pub blocks: Items<DocBlock>,
     /// The links to Rust's documentation, in order.
     pub links: Items<RustLink>,
+}
+
+/// By hand, so that where one is let go the proof has one call.
+impl Drop for Docs {
+    fn drop(self) {
+        let Docs {
+            blocks: _,
+            links: _,
+        } = self;
+    }
 }
 
 impl Docs {

@@ -96,7 +96,6 @@ impl Param {
 }
 
 /// The receiver of a method.
-#[derive(Drop)]
 pub struct SelfParam {
     /// The borrow of `&'a self` or `&'a mut self`; none is `self`.
     pub reference: Option<(Lifetime, Mutability)>,
@@ -104,6 +103,17 @@ pub struct SelfParam {
     pub path_type: PathType,
     /// The attributes.
     pub attrs: Attrs,
+}
+
+/// By hand, so that where one is let go the proof has one call.
+impl Drop for SelfParam {
+    fn drop(self) {
+        let SelfParam {
+            reference: _,
+            path_type: _,
+            attrs: _,
+        } = self;
+    }
 }
 
 impl SelfParam {

@@ -8,12 +8,21 @@ use sqlite_items::Items;
 use std::alloc::Global;
 
 /// A path as it is written, with the lifetimes that it is given.
-#[derive(Drop)]
 pub struct PathType {
     /// The segments, of which the first may be `crate`, `self` or `super`.
     pub segments: Items<Text>,
     /// The lifetimes that are written; the rest are anonymous.
     pub lifetimes: Items<Lifetime>,
+}
+
+/// By hand, so that where one is let go the proof has one call.
+impl Drop for PathType {
+    fn drop(self) {
+        let PathType {
+            segments: _,
+            lifetimes: _,
+        } = self;
+    }
 }
 
 impl PathType {

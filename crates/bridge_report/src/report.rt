@@ -24,12 +24,21 @@ pub enum InputPlace {
 }
 
 /// A place inside an input that holds a borrow: the way to it by the numbers of fields.
-#[derive(Drop)]
 pub struct LeafPath {
     /// The input.
     pub input: InputPlace,
     /// The fields, outermost first; none where the input itself is the borrow.
     pub fields: Items<usize>,
+}
+
+/// By hand, so that where one is let go the proof has one call.
+impl Drop for LeafPath {
+    fn drop(self) {
+        let LeafPath {
+            input: _,
+            fields: _,
+        } = self;
+    }
 }
 
 /// What an edge of a generated wrapper keeps alive.
@@ -54,7 +63,6 @@ pub struct ReportEdge {
 }
 
 /// What a result may borrow under one of the lifetimes that it names.
-#[derive(Drop)]
 pub struct ReturnedLifetime {
     /// The lifetime, by its number among those of the callable.
     pub lifetime: Lifetime,
@@ -64,8 +72,18 @@ pub struct ReturnedLifetime {
     pub edges: Items<ReportEdge>,
 }
 
+/// By hand, so that where one is let go the proof has one call.
+impl Drop for ReturnedLifetime {
+    fn drop(self) {
+        let ReturnedLifetime {
+            lifetime: _,
+            leaves: _,
+            edges: _,
+        } = self;
+    }
+}
+
 /// What the result of a callable may borrow.
-#[derive(Drop)]
 pub struct CallableReport {
     /// The callable.
     pub callable: CallableId,
@@ -73,11 +91,30 @@ pub struct CallableReport {
     pub returned: Items<ReturnedLifetime>,
 }
 
+/// By hand, so that where one is let go the proof has one call.
+impl Drop for CallableReport {
+    fn drop(self) {
+        let CallableReport {
+            callable: _,
+            returned: _,
+        } = self;
+    }
+}
+
 /// A context with what the results of its callables may borrow.
-#[derive(Drop)]
 pub struct BridgeReport {
     /// The context.
     pub tcx: TypeContext,
     /// Its callables: the methods of its types in order, and then its functions.
     pub callables: Items<CallableReport>,
+}
+
+/// By hand, so that where one is let go the proof has one call.
+impl Drop for BridgeReport {
+    fn drop(self) {
+        let BridgeReport {
+            tcx: _,
+            callables: _,
+        } = self;
+    }
 }

@@ -46,9 +46,15 @@ pub enum AttrInheritContext {
 
 /// How names are changed: a pattern in which `{0}` stands for the name, at most once, or nothing. Contracts see it as the
 /// bytes of the pattern, if there is one.
-#[derive(Drop)]
 pub struct RenameAttr {
     pattern: Option<Text>,
+}
+
+/// By hand, so that where one is let go the proof has one call.
+impl Drop for RenameAttr {
+    fn drop(self) {
+        let RenameAttr { pattern: _ } = self;
+    }
 }
 
 impl Model for RenameAttr {

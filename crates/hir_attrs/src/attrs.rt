@@ -12,7 +12,6 @@ use bridge_decl::{
 use std::alloc::Global;
 
 /// What the marks of a declaration come to for a backend. As `diplomat_core::hir::Attrs`.
-#[derive(Drop)]
 pub struct Attrs {
     /// The declaration is left out.
     pub disable: bool,
@@ -50,6 +49,32 @@ pub struct Attrs {
     pub custom_extra_code: Items<(IncludeLocation, IncludeSource)>,
     /// The value that a parameter has where none is passed.
     pub default_value: Option<DefaultArgValue>,
+}
+
+/// By hand, so that where one is let go the proof has one call.
+impl Drop for Attrs {
+    fn drop(self) {
+        let Attrs {
+            disable: _,
+            unstable: _,
+            deprecated: _,
+            namespace: _,
+            rename: _,
+            abi_rename: _,
+            special_method: _,
+            custom_errors: _,
+            default: _,
+            generate_mocking_interface: _,
+            manually_disposable: _,
+            abi_compatible: _,
+            ffi_error: _,
+            mut_struct_ref: _,
+            tuple: _,
+            precondition_violation: _,
+            custom_extra_code: _,
+            default_value: _,
+        } = self;
+    }
 }
 
 /// A copy of an included code and its place.

@@ -12,7 +12,6 @@ use std::alloc::Global;
 
 /// A backend as plain data: its names, what it supports, and the values and features that conditions ask for. As
 /// `diplomat_core::hir::BasicAttributeValidator`.
-#[derive(Drop)]
 pub struct BasicAttributeValidator {
     /// The backend's name.
     pub backend_name: Text,
@@ -26,6 +25,20 @@ pub struct BasicAttributeValidator {
     pub features_enabled: Names,
     /// The features of the library whose interface may still change.
     pub semver_unstable_features: Names,
+}
+
+/// By hand, so that where one is let go the proof has one call.
+impl Drop for BasicAttributeValidator {
+    fn drop(self) {
+        let BasicAttributeValidator {
+            backend_name: _,
+            support: _,
+            other_backend_names: _,
+            name_values: _,
+            features_enabled: _,
+            semver_unstable_features: _,
+        } = self;
+    }
 }
 
 impl BasicAttributeValidator {

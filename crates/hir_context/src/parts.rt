@@ -83,7 +83,6 @@ impl<T: Drop> Listed<T> {
 }
 
 /// All definitions, by their kinds.
-#[derive(Drop)]
 pub struct Definitions {
     /// Structs that only go out.
     pub out_structs: Listed<OutStructDef>,
@@ -97,6 +96,20 @@ pub struct Definitions {
     pub traits: Listed<TraitDef>,
     /// Functions that belong to no type.
     pub functions: Listed<Method>,
+}
+
+/// By hand, so that where one is let go the proof has one call.
+impl Drop for Definitions {
+    fn drop(self) {
+        let Definitions {
+            out_structs: _,
+            structs: _,
+            opaques: _,
+            enums: _,
+            traits: _,
+            functions: _,
+        } = self;
+    }
 }
 
 impl Definitions {

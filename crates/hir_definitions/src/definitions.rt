@@ -11,7 +11,6 @@ use hir_life::LifetimeEnv;
 use hir_types::{Callback, HirType, OutputOnly, TyPosition};
 
 /// A struct, by the position of its fields' types.
-#[derive(Drop)]
 pub struct StructDef<P: TyPosition> {
     /// What is documented.
     pub docs: Docs,
@@ -31,11 +30,26 @@ pub struct StructDef<P: TyPosition> {
     pub usage: TypingUseInfo,
 }
 
+/// By hand, so that where one is let go the proof has one call.
+impl<P: TyPosition + Drop> Drop for StructDef<P> {
+    fn drop(self) {
+        let StructDef {
+            docs: _,
+            name: _,
+            fields: _,
+            methods: _,
+            attrs: _,
+            lifetimes: _,
+            special_method_presence: _,
+            usage: _,
+        } = self;
+    }
+}
+
 /// A struct that is only returned.
 pub type OutStructDef = StructDef<OutputOnly>;
 
 /// A field.
-#[derive(Drop)]
 pub struct StructField<P: TyPosition> {
     /// What is documented.
     pub docs: Docs,
@@ -47,11 +61,22 @@ pub struct StructField<P: TyPosition> {
     pub attrs: Attrs,
 }
 
+/// By hand, so that where one is let go the proof has one call.
+impl<P: TyPosition + Drop> Drop for StructField<P> {
+    fn drop(self) {
+        let StructField {
+            docs: _,
+            name: _,
+            ty: _,
+            attrs: _,
+        } = self;
+    }
+}
+
 /// A field of a struct that is only returned.
 pub type OutStructField = StructField<OutputOnly>;
 
 /// An opaque: a type that other languages hold behind a pointer alone.
-#[derive(Drop)]
 pub struct OpaqueDef {
     /// What is documented.
     pub docs: Docs,
@@ -71,8 +96,23 @@ pub struct OpaqueDef {
     pub usage: TypingUseInfo,
 }
 
+/// By hand, so that where one is let go the proof has one call.
+impl Drop for OpaqueDef {
+    fn drop(self) {
+        let OpaqueDef {
+            docs: _,
+            name: _,
+            methods: _,
+            attrs: _,
+            lifetimes: _,
+            special_method_presence: _,
+            dtor_abi_name: _,
+            usage: _,
+        } = self;
+    }
+}
+
 /// An enum of variants without fields.
-#[derive(Drop)]
 pub struct EnumDef {
     /// What is documented.
     pub docs: Docs,
@@ -90,8 +130,22 @@ pub struct EnumDef {
     pub usage: TypingUseInfo,
 }
 
+/// By hand, so that where one is let go the proof has one call.
+impl Drop for EnumDef {
+    fn drop(self) {
+        let EnumDef {
+            docs: _,
+            name: _,
+            variants: _,
+            methods: _,
+            attrs: _,
+            special_method_presence: _,
+            usage: _,
+        } = self;
+    }
+}
+
 /// A variant.
-#[derive(Drop)]
 pub struct EnumVariant {
     /// What is documented.
     pub docs: Docs,
@@ -103,8 +157,19 @@ pub struct EnumVariant {
     pub attrs: Attrs,
 }
 
+/// By hand, so that where one is let go the proof has one call.
+impl Drop for EnumVariant {
+    fn drop(self) {
+        let EnumVariant {
+            docs: _,
+            name: _,
+            discriminant: _,
+            attrs: _,
+        } = self;
+    }
+}
+
 /// A trait that other languages implement.
-#[derive(Drop)]
 pub struct TraitDef {
     /// What is documented.
     pub docs: Docs,
@@ -118,4 +183,18 @@ pub struct TraitDef {
     pub lifetimes: LifetimeEnv,
     /// How it is used elsewhere.
     pub usage: TypingUseInfo,
+}
+
+/// By hand, so that where one is let go the proof has one call.
+impl Drop for TraitDef {
+    fn drop(self) {
+        let TraitDef {
+            docs: _,
+            name: _,
+            methods: _,
+            attrs: _,
+            lifetimes: _,
+            usage: _,
+        } = self;
+    }
 }

@@ -13,7 +13,6 @@ use hir_types::{HirType, InputOnly, OutputOnly, ReturnType, SelfType};
 use std::alloc::Global;
 
 /// A method of a type, or a function.
-#[derive(Drop)]
 pub struct Method {
     /// What is documented.
     pub docs: Docs,
@@ -33,6 +32,22 @@ pub struct Method {
     pub attrs: Attrs,
 }
 
+/// By hand, so that where one is let go the proof has one call.
+impl Drop for Method {
+    fn drop(self) {
+        let Method {
+            docs: _,
+            name: _,
+            abi_name: _,
+            lifetime_env: _,
+            param_self: _,
+            params: _,
+            output: _,
+            attrs: _,
+        } = self;
+    }
+}
+
 impl Method {
     /// All lifetimes of the signature in ascending order, named and anonymous ones.
     pub fn method_lifetimes(&self, alloc: Global) -> Result<Lifetimes, NoMemory>
@@ -43,12 +58,18 @@ impl Method {
 }
 
 /// A receiver.
-#[derive(Drop)]
 pub struct ParamSelf {
     /// Its type.
     pub ty: SelfType,
     /// Its marks.
     pub attrs: Attrs,
+}
+
+/// By hand, so that where one is let go the proof has one call.
+impl Drop for ParamSelf {
+    fn drop(self) {
+        let ParamSelf { ty: _, attrs: _ } = self;
+    }
 }
 
 impl ParamSelf {
@@ -66,7 +87,6 @@ impl ParamSelf {
 }
 
 /// A parameter.
-#[derive(Drop)]
 pub struct Param {
     /// Its name.
     pub name: IdentBuf,
@@ -74,6 +94,17 @@ pub struct Param {
     pub ty: HirType<InputOnly>,
     /// Its marks.
     pub attrs: Attrs,
+}
+
+/// By hand, so that where one is let go the proof has one call.
+impl Drop for Param {
+    fn drop(self) {
+        let Param {
+            name: _,
+            ty: _,
+            attrs: _,
+        } = self;
+    }
 }
 
 impl Param {

@@ -4,7 +4,6 @@ use hir_ids::OpaqueId;
 use hir_types::{OutputOnly, SuccessType};
 
 /// Which methods of a type are more than methods.
-#[derive(Drop)]
 pub struct SpecialMethodPresence {
     /// One compares two values.
     pub comparator: bool,
@@ -14,6 +13,18 @@ pub struct SpecialMethodPresence {
     pub iterator: Option<SuccessType<OutputOnly>>,
     /// The opaque that one gives and that steps through values.
     pub iterable: Option<OpaqueId>,
+}
+
+/// By hand, so that where one is let go the proof has one call.
+impl Drop for SpecialMethodPresence {
+    fn drop(self) {
+        let SpecialMethodPresence {
+            comparator: _,
+            optional_comparator: _,
+            iterator: _,
+            iterable: _,
+        } = self;
+    }
 }
 
 impl SpecialMethodPresence {

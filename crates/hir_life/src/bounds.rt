@@ -9,9 +9,15 @@ use std::alloc::Global;
 use std::marker::Model;
 
 /// A list of lifetimes that contracts see as the list of their numbers. Up to two of them take no memory.
-#[derive(Drop)]
 pub struct LifetimeList {
     lifetimes: SmallVec<Lifetime, 2>,
+}
+
+/// By hand, so that where one is let go the proof has one call.
+impl Drop for LifetimeList {
+    fn drop(self) {
+        let LifetimeList { lifetimes: _ } = self;
+    }
 }
 
 impl Model for LifetimeList {

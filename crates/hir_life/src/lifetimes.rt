@@ -12,9 +12,15 @@ use std::marker::Model;
 /// The lifetimes that a type's name, a definition or a signature has, in their order.
 ///
 /// Contracts see the list. Up to two of them take no memory.
-#[derive(Drop)]
 pub struct Lifetimes {
     indices: SmallVec<MaybeStatic<Lifetime>, 2>,
+}
+
+/// By hand, so that where one is let go the proof has one call.
+impl Drop for Lifetimes {
+    fn drop(self) {
+        let Lifetimes { indices: _ } = self;
+    }
 }
 
 impl Model for Lifetimes {

@@ -12,7 +12,6 @@ use std::alloc::Global;
 use std::fmt;
 
 /// The place of a declaration: the smallest of module, item and method that holds what is wrong.
-#[derive(Drop)]
 pub struct ErrorContext {
     /// The path of the module.
     pub module: Items<Text>,
@@ -20,6 +19,17 @@ pub struct ErrorContext {
     pub item: Text,
     /// The name of the method, where the place is one.
     pub subitem: Option<Text>,
+}
+
+/// By hand, so that where one is let go the proof has one call.
+impl Drop for ErrorContext {
+    fn drop(self) {
+        let ErrorContext {
+            module: _,
+            item: _,
+            subitem: _,
+        } = self;
+    }
 }
 
 impl ErrorContext {

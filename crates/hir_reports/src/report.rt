@@ -13,12 +13,18 @@ use std::alloc::Global;
 use std::fmt;
 
 /// A broken rule, with what its text speaks of.
-#[derive(Drop)]
 pub struct LoweringError {
     /// The rule.
     pub rule: Rule,
     /// The arguments of its text, in the order in which they stand there.
     pub args: Items<Text>,
+}
+
+/// By hand, so that where one is let go the proof has one call.
+impl Drop for LoweringError {
+    fn drop(self) {
+        let LoweringError { rule: _, args: _ } = self;
+    }
 }
 
 impl LoweringError {

@@ -12,7 +12,6 @@ use hir_docs::Docs;
 use hir_ids::Ident;
 
 /// A function that a method is passed, or a method of a trait.
-#[derive(Drop)]
 pub struct Callback {
     /// The trait that a method of a trait takes. None for a function.
     pub param_self: Option<TraitParamSelf>,
@@ -26,6 +25,20 @@ pub struct Callback {
     pub attrs: Option<Attrs>,
     /// What is documented of a method of a trait. None for a function.
     pub docs: Option<Docs>,
+}
+
+/// By hand, so that where one is let go the proof has one call.
+impl Drop for Callback {
+    fn drop(self) {
+        let Callback {
+            param_self: _,
+            params: _,
+            output: _,
+            name: _,
+            attrs: _,
+            docs: _,
+        } = self;
+    }
 }
 
 /// The receiver of a method of a trait.
