@@ -25,12 +25,21 @@ pub enum LifetimeEdgeKind<'tcx> {
 }
 
 /// What is kept of a returned lifetime.
-#[derive(Drop)]
 pub struct BorrowedLifetimeInfo<'tcx> {
     /// What holds inputs for it, in the order in which these were visited.
     pub incoming_edges: Vec<LifetimeEdge<'tcx>>,
     /// The lifetimes that outlive it, itself among them.
     pub all_longer_lifetimes: BTreeSet<Lifetime>,
+}
+
+/// By hand, so that where one is let go the proof has one call.
+impl Drop for BorrowedLifetimeInfo<'_> {
+    fn drop(self) {
+        let BorrowedLifetimeInfo {
+            incoming_edges: _,
+            all_longer_lifetimes: _,
+        } = self;
+    }
 }
 
 /// What is kept of each returned lifetime.

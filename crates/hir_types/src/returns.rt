@@ -9,7 +9,6 @@ use crate::writers::WriteType;
 use hir_ids::PrimitiveType;
 
 /// What comes of success.
-#[derive(Drop)]
 pub enum SuccessType<P: TyPosition> {
     /// Nothing is returned, and a text or a list is written.
     Write(WriteType),
@@ -17,6 +16,15 @@ pub enum SuccessType<P: TyPosition> {
     OutType(HirType<P>),
     /// Nothing.
     Unit,
+}
+
+/// By hand, so that where one is let go the proof has one call.
+impl<P: TyPosition + Drop> Drop for SuccessType<P> {
+    fn drop(self) {
+        match self {
+            SuccessType::Write(_) | SuccessType::OutType(_) | SuccessType::Unit => (),
+        }
+    }
 }
 
 impl<P: TyPosition> SuccessType<P> {
@@ -65,7 +73,6 @@ impl SuccessType<OutputOnly> {
 }
 
 /// What is returned.
-#[derive(Drop)]
 pub enum ReturnType<P: TyPosition> {
     /// Success always.
     Infallible(SuccessType<P>),
@@ -73,6 +80,15 @@ pub enum ReturnType<P: TyPosition> {
     Fallible(SuccessType<P>, Option<HirType<P>>),
     /// Success, or nothing.
     Nullable(SuccessType<P>),
+}
+
+/// By hand, so that where one is let go the proof has one call.
+impl<P: TyPosition + Drop> Drop for ReturnType<P> {
+    fn drop(self) {
+        match self {
+            ReturnType::Infallible(_) | ReturnType::Fallible(_, _) | ReturnType::Nullable(_) => (),
+        }
+    }
 }
 
 impl<P: TyPosition> ReturnType<P> {

@@ -11,7 +11,6 @@ use hir_ids::{Borrow, MaybeOwn, Optional, PrimitiveType};
 use hir_life::{Lifetime, MaybeStatic};
 
 /// A slice at a position.
-#[derive(Drop)]
 pub enum Slice<P: TyPosition> {
     /// A text, as `&str`; owned where it has no lifetime.
     Str(Option<MaybeStatic<Lifetime>>, StringEncoding),
@@ -25,6 +24,20 @@ pub enum Slice<P: TyPosition> {
     Enum(MaybeOwn, EnumPath),
     /// Borrowed opaques, as `&[&Page]` or `&[Option<&Page>]`.
     Opaque(MaybeOwn, OpaquePath<Optional, Borrow>),
+}
+
+/// By hand, so that where one is let go the proof has one call.
+impl<P: TyPosition + Drop> Drop for Slice<P> {
+    fn drop(self) {
+        match self {
+            Slice::Str(_, _)
+            | Slice::Primitive(_, _)
+            | Slice::Strs(_)
+            | Slice::Struct(_, _)
+            | Slice::Enum(_, _)
+            | Slice::Opaque(_, _) => (),
+        }
+    }
 }
 
 impl<P: TyPosition> Slice<P> {
