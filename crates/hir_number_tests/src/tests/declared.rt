@@ -170,21 +170,21 @@ pub fn trait_of(
     }))
 }
 
-fn push_types(alloc: Global, items: &mut Items<Item>) -> Result<(), NoMemory> {
+/// The items that stand before the one of a test.
+fn types(alloc: Global) -> Result<Items<Item>, NoMemory> {
+    let mut items = Items::new(alloc);
     items.push(opaque(alloc, "O", "", Mutability::Immutable)?)?;
     items.push(opaque(alloc, "A", "'x", Mutability::Mutable)?)?;
     items.push(bare_struct(alloc, "B", "'x 'y", false)?)?;
     items.push(bare_struct(alloc, "X", "'x", true)?)?;
-    items.push(enumeration(alloc, "E")?)
-}
-
-/// The environment of which the item is the last.
-pub fn environment(alloc: Global, own: Item) -> Result<Env, EnvFault> {
-    let mut items = Items::new(alloc);
-    push_types(alloc, &mut items)?;
+    items.push(enumeration(alloc, "E")?)?;
     let generics = lifetimes(alloc, "'x")?;
     items.push(trait_of(alloc, "T", generics, Items::new(alloc))?)?;
-    items.push(own)?;
+    Ok(items)
+}
+
+/// The one module that has these items.
+fn only_module(alloc: Global, items: Items<Item>) -> Result<Vec<Module>, NoMemory> {
     let mut modules = Vec::new(alloc);
     modules.push(Module {
         path: Items::new(alloc),
@@ -192,5 +192,12 @@ pub fn environment(alloc: Global, own: Item) -> Result<Env, EnvFault> {
         items,
         aliases: Items::new(alloc),
     })?;
-    Env::new(alloc, modules)
+    Ok(modules)
+}
+
+/// The environment of which the item is the last.
+pub fn environment(alloc: Global, own: Item) -> Result<Env, EnvFault> {
+    let mut items = types(alloc)?;
+    items.push(own)?;
+    Env::new(alloc, only_module(alloc, items)?)
 }
