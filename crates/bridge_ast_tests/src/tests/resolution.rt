@@ -158,6 +158,25 @@ fn first_wrong<'r>(
     Ok(None)
 }
 
+/// The environment of these modules.
+fn environment(alloc: Global, declared: &[Declared]) -> Result<Env, Fail> {
+    Ok(Env::new(alloc, modules(alloc, declared)?)?)
+}
+
+/// The same as the first wrong path, where the environment has so many modules.
+fn first_wrong_of(
+    alloc: Global,
+    env: &Env,
+    count: usize,
+    sought: Sought,
+    rows: &'static [Row],
+) -> Result<Option<&'static str>, Fail> {
+    if env.modules().len() != count {
+        return Err(Fail::from("there aren't as many modules"));
+    }
+    first_wrong(alloc, env, sought, rows)
+}
+
 /// The same in an environment of these modules, of which there are as many.
 fn first_wrong_among(
     alloc: Global,
@@ -165,16 +184,10 @@ fn first_wrong_among(
     sought: Sought,
     rows: &'static [Row],
 ) -> Result<Option<&'static str>, Fail> {
-    let env = Env::new(alloc, modules(alloc, declared)?)?;
-    let are_all = env.modules().len() == declared.len();
-    let found = first_wrong(alloc, &env, sought, rows);
+    let env = environment(alloc, declared)?;
+    let wrong = first_wrong_of(alloc, &env, declared.len(), sought, rows);
     drop(env);
-    let wrong = found?;
-    if are_all {
-        Ok(wrong)
-    } else {
-        Err(Fail::from("there aren't as many modules"))
-    }
+    wrong
 }
 
 #[test]

@@ -325,11 +325,23 @@ fn declarations_that_break_no_rule_have_their_page(rt: HostRuntime) -> Result<()
     Ok(())
 }
 
+/// The first of these roots that isn't answered as its row says: with the settings, and with reports in these lines.
+fn first_wrong(
+    alloc: Global,
+    rows: &'static [(&'static str, &'static str, &'static str)],
+) -> Result<Option<&'static str>, AllocError> {
+    for (root, settings, lines) in rows {
+        if !answers(alloc, root, settings, 1, lines)? {
+            return Ok(Some(root));
+        }
+    }
+    Ok(None)
+}
+
 #[test]
 fn declarations_that_break_one_have_their_reports(rt: HostRuntime) -> Result<(), AllocError> {
-    for (root, settings, lines) in &REFUSED {
-        assert!(rt; answers(rt.alloc(), root, settings, 1, lines)?, "{root}");
-    }
+    let wrong = first_wrong(rt.alloc(), &REFUSED)?;
+    assert_eq!(rt; wrong, None);
     Ok(())
 }
 

@@ -134,14 +134,19 @@ fn explain_row(
     Ok(())
 }
 
-#[test]
-fn leaves_are_explained(rt: HostRuntime) -> Result<(), Fail> {
-    let alloc = rt.alloc();
-    let env = environment(alloc, &["a", "b", "c", "d"], BOUNDS, 4)?;
+fn explain_rows(rt: &impl Abort, env: &LifetimeEnv, alloc: Global) -> Result<(), Fail> {
     for row in &EXPLAINED {
-        explain_row(&rt, &env, alloc, row)?;
+        explain_row(rt, env, alloc, row)?;
     }
     Ok(())
+}
+
+#[test]
+fn leaves_are_explained(rt: HostRuntime) -> Result<(), Fail> {
+    let env = environment(rt.alloc(), &["a", "b", "c", "d"], BOUNDS, 4)?;
+    let explained = explain_rows(&rt, &env, rt.alloc());
+    drop(env);
+    explained
 }
 
 fn check_row(
@@ -158,12 +163,17 @@ fn check_row(
     Ok(())
 }
 
-#[test]
-fn explanations_are_checked(rt: HostRuntime) -> Result<(), Fail> {
-    let alloc = rt.alloc();
-    let env = environment(alloc, &["a", "b", "c", "d"], BOUNDS, 4)?;
+fn check_rows(rt: &impl Abort, env: &LifetimeEnv, alloc: Global) -> Result<(), Fail> {
     for row in &CHECKED {
-        check_row(&rt, &env, alloc, row)?;
+        check_row(rt, env, alloc, row)?;
     }
     Ok(())
+}
+
+#[test]
+fn explanations_are_checked(rt: HostRuntime) -> Result<(), Fail> {
+    let env = environment(rt.alloc(), &["a", "b", "c", "d"], BOUNDS, 4)?;
+    let checked = check_rows(&rt, &env, rt.alloc());
+    drop(env);
+    checked
 }
