@@ -75,13 +75,14 @@ fn told_of<'tcx>(
     visitor: &mut BorrowingParamVisitor<'tcx>,
     param: &'tcx Param,
 ) -> Result<Told, NoMemory> {
-    match visitor.visit_param(&param.ty, param.name.as_str())? {
-        ParamBorrowInfo::NotBorrowed => Ok(Told::NotBorrowed),
-        ParamBorrowInfo::TemporarySlice => Ok(Told::TemporarySlice),
-        ParamBorrowInfo::BorrowedSlice => Ok(Told::BorrowedSlice),
-        ParamBorrowInfo::BorrowedOpaque => Ok(Told::BorrowedOpaque),
-        ParamBorrowInfo::Struct(told) => Ok(told_of_struct(&told)),
-    }
+    let told = visitor.visit_param(&param.ty, param.name.as_str())?;
+    Ok(match &told {
+        ParamBorrowInfo::NotBorrowed => Told::NotBorrowed,
+        ParamBorrowInfo::TemporarySlice => Told::TemporarySlice,
+        ParamBorrowInfo::BorrowedSlice => Told::BorrowedSlice,
+        ParamBorrowInfo::BorrowedOpaque => Told::BorrowedOpaque,
+        ParamBorrowInfo::Struct(of_struct) => told_of_struct(of_struct),
+    })
 }
 
 /// Lifetimes, and how many outlive each, if it is kept.
