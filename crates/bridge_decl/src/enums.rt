@@ -10,7 +10,6 @@ use sqlite_items::Items;
 use std::alloc::Global;
 
 /// An enum.
-#[derive(Drop)]
 pub struct Enum {
     /// The name.
     pub name: Text,
@@ -22,6 +21,19 @@ pub struct Enum {
     pub docs: Docs,
     /// The attributes.
     pub attrs: Attrs,
+}
+
+/// By hand, so that where one is let go the proof has one call.
+impl Drop for Enum {
+    fn drop(self) {
+        let Enum {
+            name: _,
+            variants: _,
+            methods: _,
+            docs: _,
+            attrs: _,
+        } = self;
+    }
 }
 
 impl Enum {
@@ -44,7 +56,6 @@ impl Enum {
 }
 
 /// A variant of an enum.
-#[derive(Drop)]
 pub struct Variant {
     /// The name.
     pub name: Text,
@@ -54,6 +65,18 @@ pub struct Variant {
     pub docs: Docs,
     /// The attributes.
     pub attrs: Attrs,
+}
+
+/// By hand, so that where one is let go the proof has one call.
+impl Drop for Variant {
+    fn drop(self) {
+        let Variant {
+            name: _,
+            discriminant: _,
+            docs: _,
+            attrs: _,
+        } = self;
+    }
 }
 
 impl Variant {

@@ -12,7 +12,6 @@ use sqlite_items::Items;
 use std::alloc::Global;
 
 /// A function of a module.
-#[derive(Drop)]
 pub struct Function {
     /// The name.
     pub name: Text,
@@ -28,6 +27,21 @@ pub struct Function {
     pub docs: Docs,
     /// The attributes.
     pub attrs: Attrs,
+}
+
+/// By hand, so that where one is let go the proof has one call.
+impl Drop for Function {
+    fn drop(self) {
+        let Function {
+            name: _,
+            abi_name: _,
+            lifetimes: _,
+            params: _,
+            output_type: _,
+            docs: _,
+            attrs: _,
+        } = self;
+    }
 }
 
 impl Function {

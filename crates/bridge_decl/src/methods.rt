@@ -12,7 +12,6 @@ use sqlite_items::Items;
 use std::alloc::Global;
 
 /// A method of a type.
-#[derive(Drop)]
 pub struct Method {
     /// The name.
     pub name: Text,
@@ -32,6 +31,23 @@ pub struct Method {
     pub docs: Docs,
     /// The attributes.
     pub attrs: Attrs,
+}
+
+/// By hand, so that where one is let go the proof has one call.
+impl Drop for Method {
+    fn drop(self) {
+        let Method {
+            name: _,
+            abi_name: _,
+            self_type: _,
+            self_param: _,
+            lifetime_env: _,
+            params: _,
+            return_type: _,
+            docs: _,
+            attrs: _,
+        } = self;
+    }
 }
 
 impl Method {
@@ -73,7 +89,6 @@ impl Method {
 }
 
 /// A parameter.
-#[derive(Drop)]
 pub struct Param {
     /// The name.
     pub name: Text,
@@ -81,6 +96,17 @@ pub struct Param {
     pub ty: TypeName,
     /// The attributes.
     pub attrs: Attrs,
+}
+
+/// By hand, so that where one is let go the proof has one call.
+impl Drop for Param {
+    fn drop(self) {
+        let Param {
+            name: _,
+            ty: _,
+            attrs: _,
+        } = self;
+    }
 }
 
 impl Param {

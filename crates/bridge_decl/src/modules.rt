@@ -12,7 +12,6 @@ use sqlite_items::Items;
 use std::alloc::Global;
 
 /// A module of a foreign interface.
-#[derive(Drop)]
 pub struct Module {
     /// The segments from the root; none for the root itself.
     pub path: Items<Text>,
@@ -22,6 +21,18 @@ pub struct Module {
     pub items: Items<Item>,
     /// Other names for what stands elsewhere, in order.
     pub aliases: Items<Alias>,
+}
+
+/// By hand, so that where one is let go the proof has one call.
+impl Drop for Module {
+    fn drop(self) {
+        let Module {
+            path: _,
+            attrs: _,
+            items: _,
+            aliases: _,
+        } = self;
+    }
 }
 
 impl Module {
@@ -43,12 +54,18 @@ impl Module {
 }
 
 /// A name in a module for what a path names.
-#[derive(Drop)]
 pub struct Alias {
     /// The name.
     pub name: Text,
     /// The segments of the path that it stands for.
     pub target: Items<Text>,
+}
+
+/// By hand, so that where one is let go the proof has one call.
+impl Drop for Alias {
+    fn drop(self) {
+        let Alias { name: _, target: _ } = self;
+    }
 }
 
 impl Alias {
@@ -64,7 +81,6 @@ impl Alias {
 }
 
 /// An item of a module.
-#[derive(Drop)]
 pub enum Item {
     /// A struct or an out-struct.
     Struct(Struct),
@@ -76,6 +92,19 @@ pub enum Item {
     Trait(Trait),
     /// A free function.
     Function(Function),
+}
+
+/// By hand, so that where one is let go the proof has one call.
+impl Drop for Item {
+    fn drop(self) {
+        match self {
+            Item::Struct(_) => (),
+            Item::Opaque(_) => (),
+            Item::Enum(_) => (),
+            Item::Trait(_) => (),
+            Item::Function(_) => (),
+        }
+    }
 }
 
 impl Item {

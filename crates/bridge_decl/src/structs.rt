@@ -12,7 +12,6 @@ use sqlite_items::Items;
 use std::alloc::Global;
 
 /// A struct.
-#[derive(Drop)]
 pub struct Struct {
     /// The name.
     pub name: Text,
@@ -28,6 +27,21 @@ pub struct Struct {
     pub docs: Docs,
     /// The attributes.
     pub attrs: Attrs,
+}
+
+/// By hand, so that where one is let go the proof has one call.
+impl Drop for Struct {
+    fn drop(self) {
+        let Struct {
+            name: _,
+            lifetimes: _,
+            fields: _,
+            methods: _,
+            output_only: _,
+            docs: _,
+            attrs: _,
+        } = self;
+    }
 }
 
 impl Struct {
@@ -52,7 +66,6 @@ impl Struct {
 }
 
 /// A field of a struct.
-#[derive(Drop)]
 pub struct Field {
     /// The name.
     pub name: Text,
@@ -62,6 +75,18 @@ pub struct Field {
     pub docs: Docs,
     /// The attributes.
     pub attrs: Attrs,
+}
+
+/// By hand, so that where one is let go the proof has one call.
+impl Drop for Field {
+    fn drop(self) {
+        let Field {
+            name: _,
+            ty: _,
+            docs: _,
+            attrs: _,
+        } = self;
+    }
 }
 
 impl Field {
@@ -82,7 +107,6 @@ impl Field {
 }
 
 /// A type whose fields stay on Rust's side.
-#[derive(Drop)]
 pub struct OpaqueType {
     /// The name.
     pub name: Text,
@@ -98,6 +122,21 @@ pub struct OpaqueType {
     pub docs: Docs,
     /// The attributes.
     pub attrs: Attrs,
+}
+
+/// By hand, so that where one is let go the proof has one call.
+impl Drop for OpaqueType {
+    fn drop(self) {
+        let OpaqueType {
+            name: _,
+            lifetimes: _,
+            mutability: _,
+            methods: _,
+            dtor_abi_name: _,
+            docs: _,
+            attrs: _,
+        } = self;
+    }
 }
 
 impl OpaqueType {

@@ -13,7 +13,6 @@ use sqlite_items::Items;
 use std::alloc::Global;
 
 /// A trait.
-#[derive(Drop)]
 pub struct Trait {
     /// The name.
     pub name: Text,
@@ -29,6 +28,21 @@ pub struct Trait {
     pub docs: Docs,
     /// The attributes.
     pub attrs: Attrs,
+}
+
+/// By hand, so that where one is let go the proof has one call.
+impl Drop for Trait {
+    fn drop(self) {
+        let Trait {
+            name: _,
+            lifetimes: _,
+            methods: _,
+            is_send: _,
+            is_sync: _,
+            docs: _,
+            attrs: _,
+        } = self;
+    }
 }
 
 impl Trait {
@@ -52,7 +66,6 @@ impl Trait {
 }
 
 /// A method of a trait.
-#[derive(Drop)]
 pub struct TraitMethod {
     /// The name.
     pub name: Text,
@@ -68,6 +81,21 @@ pub struct TraitMethod {
     pub docs: Docs,
     /// The attributes.
     pub attrs: Attrs,
+}
+
+/// By hand, so that where one is let go the proof has one call.
+impl Drop for TraitMethod {
+    fn drop(self) {
+        let TraitMethod {
+            name: _,
+            lifetimes: _,
+            self_param: _,
+            params: _,
+            output_type: _,
+            docs: _,
+            attrs: _,
+        } = self;
+    }
 }
 
 impl TraitMethod {
@@ -97,12 +125,21 @@ impl TraitMethod {
 }
 
 /// The receiver of a trait's method.
-#[derive(Drop)]
 pub struct TraitSelfParam {
     /// The borrow of `&self` or `&mut self`; none is `self`.
     pub reference: Option<(Lifetime, Mutability)>,
     /// The trait.
     pub path_trait: PathType,
+}
+
+/// By hand, so that where one is let go the proof has one call.
+impl Drop for TraitSelfParam {
+    fn drop(self) {
+        let TraitSelfParam {
+            reference: _,
+            path_trait: _,
+        } = self;
+    }
 }
 
 impl TraitSelfParam {

@@ -142,28 +142,38 @@ fn shown(entry: Entry) -> (char, usize, bool) {
 fn shallow_modules_come_first(rt: HostRuntime) -> Result<(), Fail> {
     let modules = modules(rt.alloc())?;
     let order = module_order(rt.alloc(), &modules)?;
-    assert_eq!(rt; order.as_slice(), [1, 2, 0].as_slice());
+    drop(modules);
+    let is_so = order.as_slice() == [1, 2, 0].as_slice();
+    drop(order);
+    assert!(rt; is_so);
     Ok(())
+}
+
+/// Their order, without the modules.
+fn order(alloc: Global) -> Result<ItemOrder, NoMemory> {
+    let modules = modules(alloc)?;
+    let found = ItemOrder::of(alloc, &modules)?;
+    drop(modules);
+    Ok(found)
+}
+
+fn has_places_in_order(found: &ItemOrder) -> bool {
+    let structs = [place(1, 0), place(2, 0), place(2, 2), place(0, 0)];
+    let out_structs = [place(2, 1), place(0, 1)];
+    let enums = [place(1, 2), place(0, 2)];
+    found.places.of_kind(Kind::Struct) == structs.as_slice()
+        && found.places.of_kind(Kind::OutStruct) == out_structs.as_slice()
+        && found.places.of_kind(Kind::Opaque) == [place(1, 1)].as_slice()
+        && found.places.of_kind(Kind::Enum) == enums.as_slice()
+        && found.places.of_kind(Kind::Trait).len() == 0
 }
 
 #[test]
 fn places_are_by_kind_in_order(rt: HostRuntime) -> Result<(), Fail> {
-    let modules = modules(rt.alloc())?;
-    let found = ItemOrder::of(rt.alloc(), &modules)?;
-    let structs = [place(1, 0), place(2, 0), place(2, 2), place(0, 0)];
-    assert_eq!(rt; found.places.of_kind(Kind::Struct), structs.as_slice());
-    let out_structs = [place(2, 1), place(0, 1)];
-    assert_eq!(rt;
-        found.places.of_kind(Kind::OutStruct),
-        out_structs.as_slice()
-    );
-    assert_eq!(rt;
-        found.places.of_kind(Kind::Opaque),
-        [place(1, 1)].as_slice()
-    );
-    let enums = [place(1, 2), place(0, 2)];
-    assert_eq!(rt; found.places.of_kind(Kind::Enum), enums.as_slice());
-    assert_eq!(rt; found.places.of_kind(Kind::Trait).len(), 0);
+    let found = order(rt.alloc())?;
+    let are_so = has_places_in_order(&found);
+    drop(found);
+    assert!(rt; are_so);
     Ok(())
 }
 
@@ -180,14 +190,21 @@ const ENTRIES: [(usize, usize, (char, usize, bool)); 9] = [
     (2, 2, ('s', 2, true)),
 ];
 
-#[test]
-fn entries_have_ids(rt: HostRuntime) -> Result<(), Fail> {
-    let modules = modules(rt.alloc())?;
-    let found = ItemOrder::of(rt.alloc(), &modules)?;
+fn has_entries(found: &ItemOrder) -> bool {
     for (module, item, expected) in &ENTRIES {
         let entry = found.catalog.entry(place(*module, *item));
-        assert_eq!(rt; shown(entry), *expected);
-        assert_eq!(rt; entry.id(), expected.1);
+        if shown(entry) != *expected || entry.id() != expected.1 {
+            return false;
+        }
     }
+    true
+}
+
+#[test]
+fn entries_have_ids(rt: HostRuntime) -> Result<(), Fail> {
+    let found = order(rt.alloc())?;
+    let are_so = has_entries(&found);
+    drop(found);
+    assert!(rt; are_so);
     Ok(())
 }
