@@ -1,8 +1,5 @@
--- Members by the numbers of their keys.
-use Rattle.std.proofs.Common.{◌≡◌, ℕ, zero, suc, ◌+◌, ◌<◌, ◌≤◌, Bool, true, false, not, ◌||◌, ◌&&◌, List, [], ◌∷◌, ◌++◌, map, length, drop, get_or, take, nat_eq, inl, inr, ◌⊎◌, Option, Some, None, option_map, option_and_then, is_some, Result, Ok, Err, String, Global, Ordering, Less, Equal, Greater, string_bytes, string_cmp, nat_cmp, is_eq, slice_index_or, slice_set, refl, sym, ap, ◌∙◌, bytes_eq, add-one, arith, if◌then◌else◌}
-use Rattle.std.proofs.lemmas.Bool.{eq-eqb, eqb-true}
-use Rattle.std.proofs.lemmas.Bool.Decides.{eqb_tells}
-use Rattle.std.proofs.lemmas.List.{append_assoc, append-nil}
+-- The slots of an object, as they are filled and read.
+use Rattle.std.proofs.Common.{◌≡◌, ℕ, zero, suc, ◌+◌, ◌<◌, Bool, true, false, not, ◌||◌, ◌&&◌, List, [], ◌∷◌, ◌++◌, map, length, drop, get_or, take, Option, Some, None, option_map, option_and_then, is_some, Result, Ok, Err, String, Global, Ordering, Less, Equal, Greater, string_bytes, string_cmp, nat_cmp, is_eq, slice_get, slice_set, refl, sym, ap, ◌∙◌, bytes_eq, add-one, arith, if◌then◌else◌}
 use Rattle.std.proofs.lemmas.Map.Text.{is_eq-slice_cmp}
 use Rattle.std.proofs.lemmas.Slice.Eq.{bytes_eq-Decides}
 use Rattle.std.specs.Cmp.Lexicographic.{slice_cmp}
@@ -15,13 +12,12 @@ use Rattle.serde_json.specs.Find.{get_member}
 use Rattle.serde_json.specs.View.{view, members_view}
 use Rattle.serde_json.specs.declared.value.Value.{Value}
 use Rattle.bridge_form.specs.declared.keys.Key.{Key}
-use Rattle.bridge_form.specs.declared.fields.Member.{Member}
 use Rattle.bridge_form.specs.declared.fault.Fault.{Fault}
 use Rattle.bridge_form.specs.Keys.{key_text}
-use Rattle.bridge_form.specs.Left.{ByNumber, members_seen, are_apart, held_at, held_from}
-use Rattle.bridge_form.specs.inside.Numbering.{key_number, numbered, or_unknown, place_of, slot, without}
+use Rattle.bridge_form.specs.Left.{Slots, slots_seen, are_apart}
+use Rattle.bridge_form.specs.inside.Filling.{empty_slots, key_number, or_unknown, slots_after}
 use Rattle.bridge_form.specs.Form.{members_in}
-use Rattle.bridge_form.specs.Reading.{◌>>=◌, is_one_of, known, not_null, only, under, unless_known}
+use Rattle.bridge_form.specs.Reading.{is_one_of, known, not_null, only, under, unless_known}
 use Rattle.bridge_form.specs.Given.{Stops}
 use Rattle.bridge_form.specs.declared.fault.ReadFault.{ReadFault}
 use Rattle.bridge_form.specs.declared.fault.ReadFault.TheVariants.{Bad, NoMemory}
@@ -36,16 +32,6 @@ not_here : (b : Bool) (others : Option ℕ) → (if b then Some 0 else option_ma
 not_here true others e = absurd cc
 not_here false None e = (refl, refl)
 not_here false (Some n) e = absurd cc
-
-later : (b : Bool) (others : Option ℕ) (n : ℕ) → (if b then Some 0 else option_map (λ n. suc n) others) ≡ Some (suc n) → (b ≡ false) × (others ≡ Some n)
-later true others n e = absurd cc
-later false None n e = absurd cc
-later false (Some m) n e = (refl, cc)
-
-first : (b : Bool) (others : Option ℕ) → (if b then Some 0 else option_map (λ n. suc n) others) ≡ Some 0 → b ≡ true
-first true others e = refl
-first false None e = absurd cc
-first false (Some m) e = absurd cc
 
 -- ---- the first key with a text
 
@@ -73,134 +59,84 @@ pub no_key_yet : (ks : List Key) (i : ℕ) (k : Key) (written text : List ℕ) �
     → written ≡ key_text (get_or ks i k) → bytes_eq written text ≡ false → key_number (take (i + 1) ks) text ≡ None
 no_key_yet ks i k written text lt before named e = rw add-one (no_key ks i k text lt before (rw (← named) e))
 
--- ---- the first member of a number
+-- ---- slots
 
-told_apart : (m n : ℕ) → ((nat_eq m n ≡ true) × (m ≡ n)) ⊎ ((nat_eq m n ≡ false) × ¬ (m ≡ n)) → ¬ (m ≡ n) → nat_eq m n ≡ false
-told_apart m n (inl h) other = absurd (other h.1)
-told_apart m n (inr h) other = h.0
+-- one more in which nothing lies
+empty_more : (n : ℕ) → empty_slots n ++ None ∷ [] ≡ empty_slots (suc n)
+empty_more zero = refl
+empty_more (suc n) = ap (λ slots. None ∷ slots) (empty_more n)
 
-differs : (m n : ℕ) → ¬ (m ≡ n) → nat_eq m n ≡ false
-differs m n other = told_apart m n (eqb_tells m n) other
+seen_more : (vs : List (Option Value)) (v : Option Value) → slots_seen (vs ++ v ∷ []) ≡ slots_seen vs ++ option_map view v ∷ []
+seen_more [] v = refl
+seen_more (x ∷ vs) v = ap (λ slots. option_map view x ∷ slots) (seen_more vs v)
 
-found_member : (ms : List Member) (i : ℕ) (d : Member) (n : ℕ) → i < length ms → place_of n (members_seen (take i ms)) ≡ None
-    → nat_eq (get_or ms i d).number n ≡ true → place_of n (members_seen ms) ≡ Some i
-found_member [] i d n lt before e = absurd (omega arith)
-found_member (m ∷ ms) zero d n lt before e = rw e refl
-found_member (m ∷ ms) (suc i) d n lt before e =
-    let h = not_here (nat_eq m.number n) (place_of n (members_seen (take i ms))) before in
-    rw (h.0, found_member ms i d n (omega arith) h.1 e) refl
+pub one_empty_more : (vs : List (Option Value)) (v : Option Value) (n : ℕ) → slots_seen vs ≡ empty_slots n → option_map view v ≡ None → slots_seen (vs ++ v ∷ []) ≡ empty_slots (n + 1)
+one_empty_more vs v n e none = rw add-one (seen_more vs v ∙ rw (none, e) (empty_more n))
 
-no_member : (ms : List Member) (i : ℕ) (d : Member) (n : ℕ) → i < length ms → place_of n (members_seen (take i ms)) ≡ None
-    → nat_eq (get_or ms i d).number n ≡ false → place_of n (members_seen (take (suc i) ms)) ≡ None
-no_member [] i d n lt before e = absurd (omega arith)
-no_member (m ∷ ms) zero d n lt before e = rw e refl
-no_member (m ∷ ms) (suc i) d n lt before e =
-    let h = not_here (nat_eq m.number n) (place_of n (members_seen (take i ms))) before in
-    rw (h.0, no_member ms i d n (omega arith) h.1 e) refl
+pub seen_set : (vs : List (Option Value)) (n : ℕ) (v : Option Value) → slots_seen (slice_set vs n v) ≡ slice_set (slots_seen vs) n (option_map view v)
+seen_set [] n v = refl
+seen_set (x ∷ vs) zero v = refl
+seen_set (x ∷ vs) (suc n) v = ap (λ slots. option_map view x ∷ slots) (seen_set vs n v)
 
-pub found_here : (ms : List Member) (i : ℕ) (m : Member) (n : ℕ) → i < length ms → m ≡ get_or ms i m → place_of n (members_seen (take i ms)) ≡ None
-    → m.number ≡ n → place_of n (members_seen ms) ≡ Some i
-found_here ms i m n lt is before e = found_member ms i m n lt before (rw (← is) (eq-eqb m.number n e))
+pub seen_at : (vs : List (Option Value)) (n : ℕ) (d : Option Value) → n < length vs → slice_get (slots_seen vs) n ≡ Some (option_map view (get_or vs n d))
+seen_at [] n d lt = absurd (omega arith)
+seen_at (x ∷ vs) zero d lt = refl
+seen_at (x ∷ vs) (suc n) d lt = seen_at vs n d (omega arith)
 
-pub none_yet : (ms : List Member) (i : ℕ) (m : Member) (n : ℕ) → i < length ms → m ≡ get_or ms i m → place_of n (members_seen (take i ms)) ≡ None
-    → ¬ (m.number ≡ n) → place_of n (members_seen (take (i + 1) ms)) ≡ None
-none_yet ms i m n lt is before other = rw add-one (no_member ms i m n lt before (rw (← is) (differs m.number n other)))
+-- what is put there isn't seen after it
+seen_after : (vs : List (Option Value)) (n : ℕ) (v : Option Value) → drop (suc n) (slots_seen (slice_set vs n v)) ≡ drop (suc n) (slots_seen vs)
+seen_after [] n v = refl
+seen_after (x ∷ vs) zero v = refl
+seen_after (x ∷ vs) (suc n) v = seen_after vs n v
 
--- the place that is found is one of them
-pub place_within : (n : ℕ) (ms : List Member) (place : ℕ) → place_of n (members_seen ms) ≡ Some place → place < length ms
-place_within n [] place e = absurd cc
-place_within n (m ∷ ms) zero e = omega arith
-place_within n (m ∷ ms) (suc place) e = let h = later (nat_eq m.number n) (place_of n (members_seen ms)) place e in
-    omega (arith, place_within n ms place h.1)
-
-pub held_there : (n : ℕ) (ms : List Member) (place : ℕ) (d : Member) → place_of n (members_seen ms) ≡ Some place
-    → option_map view (slice_index_or ms place d).value ≡ held_at n (members_seen ms)
-held_there n [] place d e = absurd cc
-held_there n (m ∷ ms) zero d e = rw (first (nat_eq m.number n) (place_of n (members_seen ms)) e) refl
-held_there n (m ∷ ms) (suc place) d e = let h = later (nat_eq m.number n) (place_of n (members_seen ms)) place e in
-    rw h.0 (held_there n ms place d h.1)
-
-pub taken_there : (n : ℕ) (ms : List Member) (place : ℕ) (d : Member) → place_of n (members_seen ms) ≡ Some place
-    → members_seen (slice_set ms place (record { number = (slice_index_or ms place d).number; value = None })) ≡ without n (members_seen ms)
-taken_there n [] place d e = absurd cc
-taken_there n (m ∷ ms) zero d e = rw (first (nat_eq m.number n) (place_of n (members_seen ms)) e) refl
-taken_there n (m ∷ ms) (suc place) d e = let h = later (nat_eq m.number n) (place_of n (members_seen ms)) place e in
-    rw h.0 (ap (λ slots. (m.number, option_map view m.value) ∷ slots) (taken_there n ms place d h.1))
-
-pub none_held : (n : ℕ) (slots : ByNumber) → place_of n slots ≡ None → held_at n slots ≡ None
-none_held n [] e = refl
-none_held n (s ∷ slots) e = let h = not_here (nat_eq s.0 n) (place_of n slots) e in rw h.0 (none_held n slots h.1)
-
-pub none_taken : (n : ℕ) (slots : ByNumber) → place_of n slots ≡ None → slots ≡ without n slots
-none_taken n [] e = refl
-none_taken n (s ∷ slots) e = let h = not_here (nat_eq s.0 n) (place_of n slots) e in rw h.0 (ap (λ others. s ∷ others) (none_taken n slots h.1))
+pub seen_past : (vs : List (Option Value)) (n : ℕ) (v : Option Value) → drop (n + 1) (slots_seen (slice_set vs n v)) ≡ drop (n + 1) (slots_seen vs)
+seen_past vs n v = rw add-one (seen_after vs n v)
 
 -- ---- the next key
 
-held_case : (b : Bool) (s : ℕ × Option Data) (slots : ByNumber) (m n : ℕ) → nat_eq s.0 n ≡ b → ¬ (n ≡ m) → held_at m (without n slots) ≡ held_at m slots
-    → held_at m (if b then (s.0, None) ∷ slots else s ∷ without n slots) ≡ held_at m (s ∷ slots)
-held_case true s slots m n here apart others = let is : s.0 ≡ n = eqb-true s.0 n here in
-    rw (differs s.0 m (λ same. apart (sym is ∙ same))) refl
-held_case false s slots m n here apart others = ap (λ x. if nat_eq s.0 m then s.1 else x) others
+at_drop : {A : Type 0} (all : List A) (n : ℕ) (other x : A) (xs : List A) → drop n all ≡ x ∷ xs → get_or all n other ≡ x
+at_drop [] zero other x xs e = absurd cc
+at_drop [] (suc n) other x xs e = absurd cc
+at_drop (y ∷ all) zero other x xs e = cc
+at_drop (y ∷ all) (suc n) other x xs e = at_drop all n other x xs e
 
--- another member is held as it was
-held_other : (m n : ℕ) (slots : ByNumber) → ¬ (n ≡ m) → held_at m (without n slots) ≡ held_at m slots
-held_other m n [] apart = refl
-held_other m n (s ∷ slots) apart = held_case (nat_eq s.0 n) s slots m n refl apart (held_other m n slots apart)
+got_drop : {A : Type 0} (all : List A) (n : ℕ) (x y : A) (xs : List A) → drop n all ≡ x ∷ xs → slice_get all n ≡ Some y → y ≡ x
+got_drop [] zero x y xs e at = absurd cc
+got_drop [] (suc n) x y xs e at = absurd cc
+got_drop (z ∷ all) zero x y xs e at = cc
+got_drop (z ∷ all) (suc n) x y xs e at = got_drop all n x y xs e at
 
-below_apart : (m n : ℕ) → n < m → ¬ (n ≡ m)
-below_apart m n lt same = omega (arith, lt, same)
+after_drop : {A : Type 0} (all : List A) (n : ℕ) (x : A) (xs : List A) → drop n all ≡ x ∷ xs → drop (suc n) all ≡ xs
+after_drop [] zero x xs e = absurd cc
+after_drop [] (suc n) x xs e = absurd cc
+after_drop (y ∷ all) zero x xs e = cc
+after_drop (y ∷ all) (suc n) x xs e = after_drop all n x xs e
 
-held_beyond : (m n : ℕ) (keys : List Key) (slots : ByNumber) → n < m → held_from m keys (without n slots) ≡ held_from m keys slots
-held_beyond m n [] slots lt = refl
-held_beyond m n (k ∷ keys) slots lt = rw (held_other m n slots (below_apart m n lt), held_beyond (suc m) n keys slots (omega (arith, lt))) refl
+pub none_left : {A : Type 0} (all : List A) (n : ℕ) (x : A) (xs : List A) → ¬ (n < length all) → drop n all ≡ x ∷ xs → ⊥
+none_left [] zero x xs le e = absurd cc
+none_left [] (suc n) x xs le e = absurd cc
+none_left (y ∷ all) zero x xs le e = le (omega arith)
+none_left (y ∷ all) (suc n) x xs le e = none_left all n x xs (λ lt. le (omega (arith, lt))) e
 
-at_drop : (all : List Key) (n : ℕ) (other key : Key) (keys : List Key) → drop n all ≡ key ∷ keys → get_or all n other ≡ key
-at_drop [] zero other key keys e = absurd cc
-at_drop [] (suc n) other key keys e = absurd cc
-at_drop (k ∷ all) zero other key keys e = cc
-at_drop (k ∷ all) (suc n) other key keys e = at_drop all n other key keys e
+seen_length : (vs : List (Option Value)) → length (slots_seen vs) ≡ length vs
+seen_length [] = refl
+seen_length (v ∷ vs) = ap suc (seen_length vs)
 
-after_drop : (all : List Key) (n : ℕ) (key : Key) (keys : List Key) → drop n all ≡ key ∷ keys → drop (suc n) all ≡ keys
-after_drop [] zero key keys e = absurd cc
-after_drop [] (suc n) key keys e = absurd cc
-after_drop (k ∷ all) zero key keys e = cc
-after_drop (k ∷ all) (suc n) key keys e = after_drop all n key keys e
-
-pub none_left : (all : List Key) (n : ℕ) (key : Key) (keys : List Key) → length all ≤ n → drop n all ≡ key ∷ keys → ⊥
-none_left [] zero key keys le e = absurd cc
-none_left [] (suc n) key keys le e = absurd cc
-none_left (k ∷ all) zero key keys le e = omega (arith, le)
-none_left (k ∷ all) (suc n) key keys le e = none_left all n key keys (omega (arith, le)) e
+pub no_slot_left : (vs : List (Option Value)) (n : ℕ) (x : Option Data) (xs : Slots) → ¬ (n < length vs) → drop n (slots_seen vs) ≡ x ∷ xs → ⊥
+no_slot_left vs n x xs le e = none_left (slots_seen vs) n x xs (λ lt. le (rw (← seen_length vs) lt)) e
 
 pub pair_is : {A B : Type 0} {a c : A} {b d : B} → a ≡ c → b ≡ d → ◌≡◌ {A = A × B} (a, b) (c, d)
 pair_is e f = rw (e, f) refl
 
-head_is : {A : Type 0} (x y : A) (xs ys : List A) → x ∷ xs ≡ y ∷ ys → x ≡ y
-head_is x y xs ys e = cc
+module _ (all : List Key) (n : ℕ) (key other : Key) (keys : List Key) (d : Data) (slots : Slots) (left : drop n all ≡ key ∷ keys)
+    (held : drop n slots ≡ map (λ k. under k d) (key ∷ keys)) where
+  pub next_seen : (x : Option Data) → slice_get slots n ≡ Some x → (get_or all n other ≡ key) × (x ≡ under key d)
+  next_seen x at = (at_drop all n other key keys left, got_drop slots n (under key d) x (map (λ k. under k d) keys) held at)
 
-tail_is : {A : Type 0} (x y : A) (xs ys : List A) → x ∷ xs ≡ y ∷ ys → xs ≡ ys
-tail_is x y xs ys e = cc
+  pub next_left : (drop (n + 1) all ≡ keys) × (drop (n + 1) slots ≡ map (λ k. under k d) keys)
+  next_left = rw add-one (after_drop all n key keys left, after_drop slots n (under key d) (map (λ k. under k d) keys) held)
 
-module _ (all : List Key) (n : ℕ) (key other : Key) (keys : List Key) (d : Data) (slots : ByNumber) (left : drop n all ≡ key ∷ keys)
-    (held : held_from n (key ∷ keys) slots ≡ map (λ k. under k d) (key ∷ keys)) where
-  pub next_seen : (get_or all n other ≡ key) × (held_at n slots ≡ under key d)
-  next_seen = (at_drop all n other key keys left, head_is _ _ _ _ held)
-
-  pub next_left : (drop (n + 1) all ≡ keys) × (held_from (n + 1) keys (without n slots) ≡ map (λ k. under k d) keys)
-  next_left = rw add-one (after_drop all n key keys left, held_beyond (suc n) n keys slots (omega arith) ∙ tail_is _ _ _ _ held)
-
--- ---- all members
-
--- the number of a key's text, as that of the key
-abbrev is_number : ℕ → Option ℕ → Bool
-is_number n None = false
-is_number n (Some m) = nat_eq m n
-
--- these keys have the numbers from there on among all
-abbrev AreNumbered : List Key → ℕ → List Key → Type 0
-AreNumbered all n [] = Unit {0}
-AreNumbered all n (k ∷ keys) = ((text : List ℕ) → is_number n (key_number all text) ≡ bytes_eq (key_text k) text) × AreNumbered all (suc n) keys
+-- ---- tests of keys
 
 pub both : (b c : Bool) → b && c ≡ true → (b ≡ true) × (c ≡ true)
 both true c e = (refl, e)
@@ -213,86 +149,6 @@ neither false c e = (refl, e)
 pub none_of : (b : Bool) → not b ≡ true → b ≡ false
 none_of true e = absurd cc
 none_of false e = refl
-
-first_number : (b : Bool) (others : Option ℕ) → is_number zero (if b then Some 0 else option_map (λ n. suc n) others) ≡ b
-first_number true others = refl
-first_number false None = refl
-first_number false (Some m) = differs (suc m) zero (λ e. absurd cc)
-
-suc_case : (m n : ℕ) → ((nat_eq m n ≡ true) × (m ≡ n)) ⊎ ((nat_eq m n ≡ false) × ¬ (m ≡ n)) → nat_eq (suc m) (suc n) ≡ nat_eq m n
-suc_case m n (inl h) = eq-eqb (suc m) (suc n) (ap (λ i. suc i) h.1) ∙ sym h.0
-suc_case m n (inr h) = differs (suc m) (suc n) (λ e. h.1 (omega (arith, e))) ∙ sym h.0
-
-later_number : (n : ℕ) (others : Option ℕ) → is_number (suc n) (option_map (λ n. suc n) others) ≡ is_number n others
-later_number n None = refl
-later_number n (Some m) = suc_case m n (eqb_tells m n)
-
-shifted_at : (b : Bool) (k j : Key) (text : List ℕ) (n : ℕ) (others : Option ℕ) → bytes_eq (key_text k) text ≡ b → bytes_eq (key_text j) (key_text k) ≡ false
-    → is_number n others ≡ bytes_eq (key_text j) text → is_number (suc n) (if b then Some 0 else option_map (λ n. suc n) others) ≡ bytes_eq (key_text j) text
-shifted_at true k j text n others here apart is = let same : key_text k ≡ text = (bytes_eq-Decides (key_text k) text).0 here in differs zero (suc n) (λ e. absurd cc) ∙ rw (← same) (sym apart)
-shifted_at false k j text n others here apart is = later_number n others ∙ is
-
-shifted : (k : Key) (all : List Key) (n : ℕ) (keys : List Key) → is_one_of keys (key_text k) ≡ false → AreNumbered all n keys → AreNumbered (k ∷ all) (suc n) keys
-shifted k all n [] apart are = tt
-shifted k all n (j ∷ keys) apart are =
-    let h = neither (bytes_eq (key_text j) (key_text k)) (is_one_of keys (key_text k)) apart in
-    (λ text. shifted_at (bytes_eq (key_text k) text) k j text n (key_number all text) refl h.0 (are.0 text), shifted k all (suc n) keys h.1 are.1)
-
-all_numbered : (keys : List Key) → are_apart keys ≡ true → AreNumbered keys zero keys
-unfolding are_apart
-all_numbered [] apart = tt
-all_numbered (k ∷ keys) apart =
-    let h = both (not (is_one_of keys (key_text k))) (are_apart keys) apart in
-    (λ text. first_number (bytes_eq (key_text k) text) (key_number keys text), shifted k keys zero keys (none_of (is_one_of keys (key_text k)) h.0) (all_numbered keys h.1))
-
--- members one after the other, in a list of their own
-abbrev pub after_it : (ℕ → ByNumber → ByNumber) → Option ℕ → List ℕ → Result ByNumber Fault → Result ByNumber Fault
-after_it f o text rest = or_unknown o text (λ n. rest >>= (λ slots. Ok (f n slots)))
-
-abbrev pub listed : List Key → Members → Result ByNumber Fault
-listed keys no_members = Ok []
-listed keys (member text d ms) = after_it (λ n slots. slot n (not_null d) ++ slots) (key_number keys text) text (listed keys ms)
-
-front_case : (o : Option ℕ) (text : List ℕ) (x : Option Data) (slots : ByNumber) (rest : Result ByNumber Fault) (next : ℕ → Result ByNumber Fault)
-    → ((n : ℕ) → next n ≡ (rest >>= (λ found. Ok ((slots ++ slot n x) ++ found))))
-    → or_unknown o text next ≡ (after_it (λ n others. slot n x ++ others) o text rest >>= (λ found. Ok (slots ++ found)))
-front_case None text x slots rest next e = refl
-front_case (Some n) text x slots (Ok found) next e = e n ∙ ap Ok (append_assoc slots (slot n x) found)
-front_case (Some n) text x slots (Err fault) next e = e n
-
-pub front : (keys : List Key) (slots : ByNumber) (ms : Members) → numbered keys slots ms ≡ (listed keys ms >>= (λ found. Ok (slots ++ found)))
-front keys slots no_members = ap Ok (sym (append-nil slots))
-front keys slots (member text d ms) = front_case (key_number keys text) text (not_null d) slots (listed keys ms) (λ n. numbered keys (slots ++ slot n (not_null d)) ms)
-    (λ n. front keys (slots ++ slot n (not_null d)) ms)
-
--- whether there are some
-abbrev pub unit_of : Result ByNumber Fault → Result (Unit {0}) Fault
-unit_of (Ok slots) = Ok tt
-unit_of (Err fault) = Err fault
-
--- a key of a text has a number
-knows : (keys : List Key) (text : List ℕ) → is_some (key_number keys text) ≡ is_one_of keys text
-knows [] text = refl
-knows (k ∷ keys) text = knows_at (bytes_eq (key_text k) text) (key_number keys text) (is_one_of keys text) (knows keys text)
-  where
-    knows_at : (b : Bool) (others : Option ℕ) (one : Bool) → is_some others ≡ one → is_some (if b then Some 0 else option_map (λ n. suc n) others) ≡ b || one
-    knows_at true others one e = refl
-    knows_at false None one e = e
-    knows_at false (Some n) one e = e
-
-known_case : (f : ℕ → ByNumber → ByNumber) (o : Option ℕ) (one : Bool) (text : List ℕ) (rest : Result ByNumber Fault) (others : Result (Unit {0}) Fault) → is_some o ≡ one
-    → unit_of rest ≡ others → unit_of (after_it f o text rest) ≡ unless_known one text others
-known_case f None true text rest others e is = absurd cc
-known_case f None false text rest others e is = refl
-known_case f (Some n) true text (Ok slots) others e is = is
-known_case f (Some n) true text (Err fault) others e is = is
-known_case f (Some n) false text rest others e is = absurd cc
-
--- members are refused where one has a key that is none of these, with its fault
-pub as_known : (keys : List Key) (ms : Members) → unit_of (listed keys ms) ≡ known keys ms
-as_known keys no_members = refl
-as_known keys (member text d ms) = known_case (λ n slots. slot n (not_null d) ++ slots) (key_number keys text) (is_one_of keys text) text (listed keys ms) (known keys ms)
-    (knows keys text) (as_known keys ms)
 
 -- ---- each name once
 
@@ -315,62 +171,133 @@ unfolding IsStrictlySortedBy
 distinct [] sorted = tt
 distinct (e ∷ es) sorted = (none_above e.0 es sorted.0, distinct es sorted.1)
 
--- ---- what stands under a key
+-- ---- one member more
 
--- a member that isn't the key's
-passed : (m n : ℕ) (x : Option Data) (slots : ByNumber) → nat_eq m n ≡ false → held_at n (slot m x ++ slots) ≡ held_at n slots
-passed m n None slots other = refl
-passed m n (Some d) slots other = rw other refl
+-- the member's value, in place of what lay there
+abbrev latest : Option Data → Option Data → Option Data
+latest x None = x
+latest x (Some d) = not_null d
 
--- the key's member, after which there is no other
-reached : (m n : ℕ) (x : Option Data) (slots : ByNumber) → nat_eq m n ≡ true → held_at n slots ≡ None → held_at n (slot m x ++ slots) ≡ x
-reached m n None slots here none = none
-reached m n (Some d) slots here none = rw here refl
+-- what lies in the slots when these members have been put there
+abbrev over : List Key → Slots → Members → Slots
+over [] slots ms = slots
+over (k ∷ keys) [] ms = []
+over (k ∷ keys) (x ∷ slots) ms = latest x (get_member (key_text k) ms) ∷ over keys slots ms
 
-held_by : (o : Ordering) (b : Bool) (m n : ℕ) (d : Data) (slots : ByNumber) (found : Option Data) → is_eq o ≡ b → nat_eq m n ≡ b → (o ≡ Equal → found ≡ None)
-    → held_at n slots ≡ option_and_then not_null found → held_at n (slot m (not_null d) ++ slots) ≡ option_and_then not_null (match_ordering o found (Some d) found)
-held_by Less true m n d slots found is here once e = absurd cc
-held_by Less false m n d slots found is here once e = passed m n (not_null d) slots here ∙ e
-held_by Equal true m n d slots found is here once e = reached m n (not_null d) slots here (e ∙ ap (λ x. option_and_then not_null x) (once refl))
-held_by Equal false m n d slots found is here once e = absurd cc
-held_by Greater true m n d slots found is here once e = absurd cc
-held_by Greater false m n d slots found is here once e = passed m n (not_null d) slots here ∙ e
+found_case : (o : Ordering) (b : Bool) (found : Option Data) (d : Data) → is_eq o ≡ b → match_ordering o found (Some d) found ≡ (if b then Some d else found)
+found_case Less true found d e = absurd cc
+found_case Less false found d e = refl
+found_case Equal true found d e = refl
+found_case Equal false found d e = absurd cc
+found_case Greater true found d e = absurd cc
+found_case Greater false found d e = refl
 
-pub given : (f : ℕ → ByNumber → ByNumber) (o : Option ℕ) (text : List ℕ) (rest : Result ByNumber Fault) (slots : ByNumber) → after_it f o text rest ≡ Ok slots
-    → (m : ℕ) × (found : ByNumber) × (o ≡ Some m) × (rest ≡ Ok found) × (slots ≡ f m found)
-given f None text rest slots e = absurd cc
-given f (Some m) text (Ok found) slots e = (m, found, refl, refl, cc)
-given f (Some m) text (Err fault) slots e = absurd cc
+member_at : (k : Key) (text : List ℕ) (d : Data) (ms : Members) → get_member (key_text k) (member text d ms) ≡ (if bytes_eq (key_text k) text then Some d else get_member (key_text k) ms)
+member_at k text d ms = found_case (slice_cmp nat_cmp (key_text k) text) (bytes_eq (key_text k) text) (get_member (key_text k) ms) d (is_eq-slice_cmp (key_text k) text)
 
-none_listed : (n : ℕ) (slots : ByNumber) → [] ≡ slots → held_at n slots ≡ None
-none_listed n [] e = refl
-none_listed n (s ∷ slots) e = absurd cc
+pub reached : (k : Key) (text : List ℕ) (d : Data) (ms : Members) → bytes_eq (key_text k) text ≡ true → get_member (key_text k) (member text d ms) ≡ Some d
+reached k text d ms same = member_at k text d ms ∙ rw same refl
 
-ok_is : (one other : ByNumber) (r : Result ByNumber Fault) → r ≡ Ok one → r ≡ Ok other → one ≡ other
-ok_is one other (Ok r) e f = cc
-ok_is one other (Err fault) e f = absurd cc
+pub passed : (k : Key) (text : List ℕ) (d : Data) (ms : Members) → bytes_eq (key_text k) text ≡ false → get_member (key_text k) (member text d ms) ≡ get_member (key_text k) ms
+passed k text d ms other = member_at k text d ms ∙ rw other refl
 
-module _ (keys : List Key) (k : Key) (n : ℕ) (numbers : (text : List ℕ) → is_number n (key_number keys text) ≡ bytes_eq (key_text k) text) where
-  held_under : (ms : Members) (slots : ByNumber) → AreDistinct ms → listed keys ms ≡ Ok slots → held_at n slots ≡ option_and_then not_null (get_member (key_text k) ms)
-  held_under no_members slots once e = none_listed n slots (ok_is [] slots (Ok []) refl e)
-  held_under (member text d ms) slots once e =
-      let h = given (λ m others. slot m (not_null d) ++ others) (key_number keys text) text (listed keys ms) slots e in
-      let o = slice_cmp nat_cmp (key_text k) text in
-      let eqs : is_eq o ≡ bytes_eq (key_text k) text = is_eq-slice_cmp (key_text k) text in
-      let here : nat_eq h.0 n ≡ bytes_eq (key_text k) text = sym (ap (is_number n) h.2) ∙ numbers text in
-      let once_here : o ≡ Equal → get_member (key_text k) ms ≡ None =
-      λ is. let same : key_text k ≡ text = (bytes_eq-Decides (key_text k) text).0 (sym eqs ∙ ap is_eq is) in rw same once.0 in
-      rw h.4 (held_by o (bytes_eq (key_text k) text) h.0 n d h.1 (get_member (key_text k) ms) eqs here once_here (held_under ms h.1 once.1 h.3))
+unchanged : (keys : List Key) (slots : Slots) (text : List ℕ) (d : Data) (ms : Members) → is_one_of keys text ≡ false → over keys slots (member text d ms) ≡ over keys slots ms
+unchanged [] slots text d ms none = refl
+unchanged (k ∷ keys) [] text d ms none = refl
+unchanged (k ∷ keys) (x ∷ slots) text d ms none =
+    let h = neither (bytes_eq (key_text k) text) (is_one_of keys text) none in
+    rw (passed k text d ms h.0, unchanged keys slots text d ms h.1) refl
 
-under_members : (keys : List Key) (k : Key) (n : ℕ) (ms : Members) (slots : ByNumber) → ((text : List ℕ) → is_number n (key_number keys text) ≡ bytes_eq (key_text k) text)
-    → AreDistinct ms → listed keys ms ≡ Ok slots → held_at n slots ≡ under k (object ms)
+module _ (k : Key) (keys : List Key) (x : Option Data) (slots : Slots) (text : List ℕ) (d : Data) (ms : Members) where
+  put_here : is_one_of keys (key_text k) ≡ false → get_member text ms ≡ None → bytes_eq (key_text k) text ≡ true
+      → over (k ∷ keys) (not_null d ∷ slots) ms ≡ over (k ∷ keys) (x ∷ slots) (member text d ms)
+  put_here apart once same =
+      let at : key_text k ≡ text = (bytes_eq-Decides (key_text k) text).0 same in
+      let none : get_member (key_text k) ms ≡ None = rw at once in
+      let others : over keys slots (member text d ms) ≡ over keys slots ms = unchanged keys slots text d ms (rw (← at) apart) in
+      rw (reached k text d ms same, none, others) refl
+
+  put_later : (n : ℕ) → bytes_eq (key_text k) text ≡ false → over keys (slice_set slots n (not_null d)) ms ≡ over keys slots (member text d ms)
+      → over (k ∷ keys) (x ∷ slice_set slots n (not_null d)) ms ≡ over (k ∷ keys) (x ∷ slots) (member text d ms)
+  put_later n other rest = rw (passed k text d ms other, rest) refl
+
+  put_case : (b : Bool) (o : Option ℕ) (n : ℕ) → bytes_eq (key_text k) text ≡ b → (if b then Some 0 else option_map (λ n. suc n) o) ≡ Some n
+      → is_one_of keys (key_text k) ≡ false → get_member text ms ≡ None
+      → ((m : ℕ) → o ≡ Some m → over keys (slice_set slots m (not_null d)) ms ≡ over keys slots (member text d ms))
+      → over (k ∷ keys) (slice_set (x ∷ slots) n (not_null d)) ms ≡ over (k ∷ keys) (x ∷ slots) (member text d ms)
+  put_case true o n same e apart once rest = let is : n ≡ 0 = cc in rw is (put_here apart once same)
+  put_case false None n other e apart once rest = absurd cc
+  put_case false (Some m) n other e apart once rest = let is : n ≡ suc m = cc in rw is (put_later m other (rest m refl))
+
+-- a member that is put into the slot of its key is one more of the members
+put_over : (keys : List Key) (slots : Slots) (n : ℕ) (text : List ℕ) (d : Data) (ms : Members) → are_apart keys ≡ true → get_member text ms ≡ None → key_number keys text ≡ Some n
+    → over keys (slice_set slots n (not_null d)) ms ≡ over keys slots (member text d ms)
+unfolding are_apart
+put_over [] slots n text d ms apart once e = absurd cc
+put_over (k ∷ keys) [] n text d ms apart once e = refl
+put_over (k ∷ keys) (x ∷ slots) n text d ms apart once e =
+    let h = both (not (is_one_of keys (key_text k))) (are_apart keys) apart in
+    put_case k keys x slots text d ms (bytes_eq (key_text k) text) (key_number keys text) n refl e (none_of (is_one_of keys (key_text k)) h.0) once
+    (λ m is. put_over keys slots m text d ms h.1 once is)
+
+-- ---- all members
+
+over_none : (keys : List Key) (slots : Slots) → over keys slots no_members ≡ slots
+over_none [] slots = refl
+over_none (k ∷ keys) [] = refl
+over_none (k ∷ keys) (x ∷ slots) = ap (λ others. x ∷ others) (over_none keys slots)
+
+pub given : {A : Type 0} (o : Option ℕ) (text : List ℕ) (next : ℕ → Result A Fault) (found : A) → or_unknown o text next ≡ Ok found → (n : ℕ) × (o ≡ Some n) × (next n ≡ Ok found)
+given None text next found e = absurd cc
+given (Some n) text next found e = (n, refl, e)
+
+ok_is : (one other : Slots) → ◌≡◌ {A = Result Slots Fault} (Ok one) (Ok other) → one ≡ other
+ok_is one other e = cc
+
+slots_after_over : (keys : List Key) (slots : Slots) (ms : Members) (found : Slots) → are_apart keys ≡ true → AreDistinct ms → slots_after keys slots ms ≡ Ok found → found ≡ over keys slots ms
+slots_after_over keys slots no_members found apart once e = sym (ok_is slots found e) ∙ sym (over_none keys slots)
+slots_after_over keys slots (member text d ms) found apart once e =
+    let h = given (key_number keys text) text (λ n. slots_after keys (slice_set slots n (not_null d)) ms) found e in
+    slots_after_over keys (slice_set slots h.0 (not_null d)) ms found apart once.1 h.2 ∙ put_over keys slots h.0 text d ms apart once.0 h.1
+
+latest_none : (o : Option Data) → latest None o ≡ option_and_then not_null o
+latest_none None = refl
+latest_none (Some d) = refl
+
+over_empty : (keys : List Key) (ms : Members) → over keys (empty_slots (length keys)) ms ≡ map (λ k. under k (object ms)) keys
 unfolding under
-under_members keys k n ms slots numbers once e = held_under keys k n numbers ms slots once e
+over_empty [] ms = refl
+over_empty (k ∷ keys) ms = rw (latest_none (get_member (key_text k) ms), over_empty keys ms) refl
 
-all_under : (all : List Key) (n : ℕ) (keys : List Key) (ms : Members) (slots : ByNumber) → AreNumbered all n keys → AreDistinct ms → listed all ms ≡ Ok slots
-    → held_from n keys slots ≡ map (λ k. under k (object ms)) keys
-all_under all n [] ms slots are once e = refl
-all_under all n (k ∷ keys) ms slots are once e = rw (under_members all k n ms slots are.0 once e, all_under all (suc n) keys ms slots are.1 once e) refl
+-- ---- unknown keys
+
+-- whether there are some
+abbrev pub unit_of : {A : Type 0} → Result A Fault → Result (Unit {0}) Fault
+unit_of (Ok x) = Ok tt
+unit_of (Err fault) = Err fault
+
+-- a key of a text has a number
+pub knows : (keys : List Key) (text : List ℕ) → is_some (key_number keys text) ≡ is_one_of keys text
+knows [] text = refl
+knows (k ∷ keys) text = knows_at (bytes_eq (key_text k) text) (key_number keys text) (is_one_of keys text) (knows keys text)
+  where
+    knows_at : (b : Bool) (others : Option ℕ) (one : Bool) → is_some others ≡ one → is_some (if b then Some 0 else option_map (λ n. suc n) others) ≡ b || one
+    knows_at true others one e = refl
+    knows_at false None one e = e
+    knows_at false (Some n) one e = e
+
+pub known_case : {A : Type 0} (o : Option ℕ) (one : Bool) (text : List ℕ) (next : ℕ → Result A Fault) (others : Result (Unit {0}) Fault) → is_some o ≡ one
+    → ((n : ℕ) → unit_of (next n) ≡ others) → unit_of (or_unknown o text next) ≡ unless_known one text others
+known_case None true text next others e is = absurd cc
+known_case None false text next others e is = refl
+known_case (Some n) true text next others e is = is n
+known_case (Some n) false text next others e is = absurd cc
+
+-- members are refused where one has a key that is none of these, with its fault
+as_known : (keys : List Key) (slots : Slots) (ms : Members) → unit_of (slots_after keys slots ms) ≡ known keys ms
+as_known keys slots no_members = refl
+as_known keys slots (member text d ms) = known_case (key_number keys text) (is_one_of keys text) text (λ n. slots_after keys (slice_set slots n (not_null d)) ms) (known keys ms)
+    (knows keys text) (λ n. as_known keys (slice_set slots n (not_null d)) ms)
 
 -- ---- the whole object
 
@@ -383,31 +310,22 @@ is_object (Data.string s) ms e = absurd cc
 is_object (Data.array ds) ms e = absurd cc
 is_object (object held) ms e = cc
 
-pub kept : (r : Result ByNumber Fault) (found : ByNumber) → (r >>= (λ slots. Ok slots)) ≡ Ok found → r ≡ Ok found
-kept (Ok slots) found e = e
-kept (Err fault) found e = absurd cc
-
-refuses : (r : Result ByNumber Fault) (fault : Fault) → (r >>= (λ slots. Ok slots)) ≡ Err fault → unit_of r ≡ Err fault
-refuses (Ok slots) fault e = absurd cc
-refuses (Err other) fault e = cc
-
 module _ (keys : List Key) (es : List (String Global × Value)) (apart : are_apart keys ≡ true) (sorted : IsStrictlySortedBy string_cmp (keys_of es)) where
-  pub opened : (d : Data) (found : ByNumber) → members_in d ≡ Ok (members_view es) → numbered keys [] (members_view es) ≡ Ok found
-      → (only keys d ≡ Ok tt) × (held_from zero keys found ≡ map (λ k. under k d) keys)
+  pub opened : (d : Data) (found : Slots) → members_in d ≡ Ok (members_view es) → slots_after keys (empty_slots (length keys)) (members_view es) ≡ Ok found
+      → (only keys d ≡ Ok tt) × (found ≡ map (λ k. under k d) keys)
   unfolding only
   opened d found is e =
       let ms = members_view es in
       let at = is_object d ms is in
-      let list : listed keys ms ≡ Ok found = kept (listed keys ms) found (sym (front keys [] ms) ∙ e) in
-      rw at (sym (as_known keys ms) ∙ ap unit_of list, all_under keys zero keys ms found (all_numbered keys apart) (distinct es sorted) list)
+      rw at (sym (as_known keys (empty_slots (length keys)) ms) ∙ ap unit_of e, slots_after_over keys (empty_slots (length keys)) ms found apart (distinct es sorted) e ∙ over_empty keys ms)
 
-  pub refused : (d : Data) (fault : ReadFault) → members_in d ≡ Ok (members_view es) → Stops fault (numbered keys [] (members_view es)) → Stops fault (only keys d)
+  pub refused : (d : Data) (fault : ReadFault) → members_in d ≡ Ok (members_view es) → Stops fault (slots_after keys (empty_slots (length keys)) (members_view es)) → Stops fault (only keys d)
   unfolding only
   refused d NoMemory is e = tt
   refused d (Bad fault) is e =
       let ms = members_view es in
       let at = is_object d ms is in
-      rw at (sym (as_known keys ms) ∙ refuses (listed keys ms) fault (sym (front keys [] ms) ∙ e))
+      rw at (sym (as_known keys (empty_slots (length keys)) ms) ∙ ap unit_of e)
 
 pub no_object : (keys : List Key) (d : Data) (fault : ReadFault) → Stops fault (members_in d) → Stops fault (only keys d)
 unfolding members_in only

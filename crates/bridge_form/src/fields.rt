@@ -1,6 +1,6 @@
-//! Objects: each member gets the number of its key in the form, and the members are then taken in the order of the form.
+//! Objects: what stands under each key of the form is put into a slot of its own, and the slots are then read in order.
 
-ghost use Rattle.std.specs.Prelude.{◌≡◌, ℕ, ◌<◌, ◌≤◌, [], ◌∷◌, ◌++◌, true, length, List, None, Some, OnOk, option_map, string_cmp};
+ghost use Rattle.std.specs.Prelude.{◌≡◌, ℕ, ◌+◌, ◌<◌, ◌≤◌, [], ◌∷◌, true, drop, length, List, IfOk, IfSome, None, Some, option_map, slice_get, slice_set, string_cmp};
 ghost use Rattle.std.specs.BTreeMap.{keys};
 ghost use Rattle.std.specs.Str.{bytes_eq};
 ghost use Rattle.std.specs.List.Sorted.{IsStrictlySortedBy};
@@ -10,8 +10,8 @@ ghost use Rattle.bridge_form.specs.declared.keys.Key.{Key as Name};
 ghost use Rattle.bridge_form.specs.Form.{sole_under};
 ghost use Rattle.bridge_form.specs.Reading.{not_null, under};
 ghost use Rattle.bridge_form.specs.Given.{GivesBy};
-ghost use Rattle.bridge_form.specs.Left.{IsLeft, Opens, are_apart, held_at, members_seen, one_seen, seen};
-ghost use Rattle.bridge_form.specs.inside.Numbering.{alone, key_number, numbered, place_of, slot, without};
+ghost use Rattle.bridge_form.specs.Left.{IsLeft, Opens, are_apart, one_seen, seen, slots_seen};
+ghost use Rattle.bridge_form.specs.inside.Filling.{and_if, empty_slots, key_number, lone_seen, slots_after, tallied};
 
 use crate::fault::{Fault, ReadFault};
 use crate::keys::Key;
@@ -20,15 +20,6 @@ use bridge_text::NoMemory;
 use serde_json::{Map, Value};
 use std::alloc::Global;
 
-/// A member of an object, which isn't null.
-#[derive(Drop)]
-pub struct Member {
-    /// The number of its key among those of the form.
-    pub number: usize,
-    /// Its value, until that is taken.
-    pub value: Option<Value>,
-}
-
 /// What is left to read of an object.
 #[derive(Drop)]
 pub struct Fields<'k> {
@@ -36,8 +27,8 @@ pub struct Fields<'k> {
     pub keys: &'k [Key],
     /// How many of them were read.
     pub read: usize,
-    /// Its members.
-    pub members: Vec<Member>,
+    /// What stands under each of them, until it is read; none where nothing does, or null.
+    pub slots: Vec<Option<Value>>,
 }
 
 impl<'k> Fields<'k> {
@@ -47,11 +38,11 @@ impl<'k> Fields<'k> {
         requires { are_apart keys.now ≡ true }
         ensures { Opens result keys.now (view value) }
     {
-        let members = number_all(alloc, keys, members(alloc, value)?)?;
+        let slots = fill(alloc, keys, members(alloc, value)?)?;
         Ok(Fields {
             keys,
             read: 0,
-            members,
+            slots,
         })
     }
 
@@ -64,77 +55,40 @@ impl<'k> Fields<'k> {
             → (option_map seen result ≡ Some (key, under key d)) × IsLeft self.new keys d }
     {
         let number = self.read;
-        if number < self.keys.len() {
+        if number < self.keys.len() && number < self.slots.len() {
             self.read = number + 1;
-            return Some((self.keys[number], take(&mut self.members, number)));
+            return Some((self.keys[number], take(&mut self.slots, number)));
         }
         None
     }
 }
 
-/// The one key of an object under which something stands, with what stands there; the fault of a value that is no object, or of its first
-/// key that is none of these; else the wrong form, where something stands under no key or under more than one.
-#[tactic(auto, using(crate::proofs::SoleLemmas::sole_refused, crate::proofs::SoleLemmas::sole_no_object))]
-pub fn sole(alloc: Global, value: Value, form: &[Key]) -> Result<(Key, Value), ReadFault>
-    requires { are_apart form.now ≡ true }
-    ensures { GivesBy one_seen result (sole_under form.now (view value)) }
+/// The value, unless it is null.
+fn unless_null(value: Value) -> Option<Value>
+    ensures { option_map view result ≡ not_null (view value) }
 {
-    let members = number_all(alloc, form, members(alloc, value)?)?;
-    match alone(members) {
-        Some((number, value)) => Ok((form[number], value)),
-        None => Err(ReadFault::wrong_form(alloc)),
-    }
+    if value.is_null() { None } else { Some(value) }
 }
 
-/// The number of the only member, with its value.
-#[tactic(auto, using(crate::proofs::SoleLemmas::alone_more))]
-fn alone(mut members: Vec<Member>) -> Option<(usize, Value)>
-    ensures { option_map (λ one. (one.0, view one.1)) result
-        ≡ alone (members_seen members.items) }
+/// Takes what lies in the slot of that number.
+fn take(slots: &mut Vec<Option<Value>>, number: usize) -> Option<Value>
+    requires { number < length slots.old.items }
+    ensures taken { slice_get (slots_seen slots.old.items) number
+        ≡ Some (option_map view result) }
+    ensures left { drop (number + 1) (slots_seen slots.new.items)
+        ≡ drop (number + 1) (slots_seen slots.old.items) }
 {
-    let Member { number, value } = members.pop()?;
-    if members.is_empty() {
-        return Some((number, value?));
-    }
-    None
+    slots[number].take()
 }
 
-/// The place of the first member whose key has that number.
-fn place_of(members: &[Member], number: usize) -> Option<usize>
-    ensures { result ≡ place_of number (members_seen members.now) }
+/// Puts the value into the slot of that number.
+fn put(slots: &mut [Option<Value>], number: usize, value: Value)
+    requires { number < length slots.old }
+    ensures put { slots_seen slots.new
+        ≡ slice_set (slots_seen slots.old) number (not_null (view value)) }
+    ensures kept { length slots.new ≡ length slots.old }
 {
-    for (place, member) in members.iter().enumerate() {
-        if member.number == number {
-            return Some(place);
-        }
-    }
-    None
-}
-
-/// Takes what the member of that place holds.
-fn take_at(members: &mut [Member], place: usize) -> Option<Value>
-    requires { place < length members.old }
-    ensures taken { (number : ℕ)
-        → place_of number (members_seen members.old) ≡ Some place
-        → option_map view result ≡ held_at number (members_seen members.old) }
-    ensures left { (number : ℕ)
-        → place_of number (members_seen members.old) ≡ Some place
-        → members_seen members.new ≡ without number (members_seen members.old) }
-{
-    members[place].value.take()
-}
-
-/// Takes what stands under the key of that number.
-#[tactic(auto, using(crate::proofs::FieldLemmas::place_within, crate::proofs::FieldLemmas::none_held, crate::proofs::FieldLemmas::none_taken))]
-fn take(members: &mut Vec<Member>, number: usize) -> Option<Value>
-    ensures taken { option_map view result ≡ held_at number (members_seen members.old.items) }
-    ensures left { members_seen members.new.items
-        ≡ without number (members_seen members.old.items) }
-{
-    match place_of(members.as_slice(), number) {
-        Some(place) => take_at(members.as_mut_slice(), place),
-        None => None,
-    }
+    slots[number] = unless_null(value);
 }
 
 /// Whether two texts are the same. Most keys differ in their length or their first byte, which is told faster so than by comparing words.
@@ -154,9 +108,10 @@ fn is_same(one: &str, other: &str) -> bool
     true
 }
 
-/// The number of the key of that name.
+/// The number of the key of that name, if it is one of these.
 fn key_number(keys: &[Key], name: &str) -> Option<usize>
-    ensures { result ≡ key_number keys.now name.now }
+    ensures found { result ≡ key_number keys.now name.now }
+    ensures within { IfSome result (λ number. number < length keys.now) }
 {
     for (number, key) in keys.iter().enumerate() {
         if is_same(key.text(), name) {
@@ -166,38 +121,95 @@ fn key_number(keys: &[Key], name: &str) -> Option<usize>
     None
 }
 
-/// Adds the member under the key of that number; null is none.
-fn add(members: &mut Vec<Member>, number: usize, value: Value) -> Result<(), NoMemory>
-    ensures { OnOk result (members_seen members.new.items
-        ≡ members_seen members.old.items ++ slot number (not_null (view value))) }
+/// So many slots in which nothing lies.
+fn empty_slots(alloc: Global, count: usize) -> Result<Vec<Option<Value>>, NoMemory>
+    ensures { IfOk result (λ slots. (slots_seen slots.items ≡ empty_slots count)
+        × (length slots.items ≡ count)) }
 {
-    if value.is_null() {
-        return Ok(());
+    let mut slots = Vec::with_capacity(alloc, count)?;
+    for _number in 0..count {
+        slots.push(None)?;
     }
-    members.push(Member {
-        number,
-        value: Some(value),
-    })?;
-    Ok(())
+    Ok(slots)
 }
 
-/// The members by the numbers of their keys; the fault of the first whose key is none of these.
-fn number_all(
+/// A slot for each key of the form, with what stands under it; the fault of the first member whose key is none of these.
+fn fill(
     alloc: Global,
     form: &[Key],
     mut members: Map<String, Value>,
-) -> Result<Vec<Member>, ReadFault>
-    ensures numbered { GivesBy (λ found. members_seen found.items) result
-        (numbered form.now [] (members_view members.entries)) }
+) -> Result<Vec<Option<Value>>, ReadFault>
+    ensures filled { GivesBy (λ slots. slots_seen slots.items) result
+        (slots_after form.now (empty_slots (length form.now)) (members_view members.entries)) }
+    ensures long { IfOk result (λ slots. length slots.items ≡ length form.now) }
     ensures ordered { IsStrictlySortedBy string_cmp (keys members) }
 {
-    let mut found = Vec::with_capacity(alloc, members.len())?;
+    let mut slots = empty_slots(alloc, form.len())?;
     // To take each value out of the map and let the map go at the end costs half of what taking its members out would.
     for (name, value) in members.iter_mut() {
         match key_number(form, name.as_str()) {
-            Some(number) => add(&mut found, number, value.take())?,
+            Some(number) => put(slots.as_mut_slice(), number, value.take()),
             None => return Err(ReadFault::Bad(Fault::unknown_key(alloc, name.as_str())?)),
         }
     }
-    Ok(found)
+    Ok(slots)
+}
+
+/// Under which key alone something stands.
+#[derive(Drop)]
+enum Lone {
+    /// Under none.
+    Nothing,
+    /// Under that one, with what stands there.
+    One(Key, Value),
+    /// Under more than one.
+    More,
+}
+
+impl Lone {
+    /// With what stands under one key more; null is nothing.
+    fn and(self, key: Key, value: Value) -> Lone
+        ensures { lone_seen result ≡ and_if (lone_seen self) key (not_null (view value)) }
+    {
+        if value.is_null() {
+            return self;
+        }
+        match self {
+            Lone::Nothing => Lone::One(key, value),
+            Lone::One(_, _) | Lone::More => Lone::More,
+        }
+    }
+}
+
+/// Under which key of the form alone something stands; the fault of the first member whose key is none of these.
+fn find_lone(
+    alloc: Global,
+    form: &[Key],
+    mut members: Map<String, Value>,
+) -> Result<Lone, ReadFault>
+    ensures tallied { GivesBy lone_seen result
+        (tallied form.now (Some None) (members_view members.entries)) }
+    ensures ordered { IsStrictlySortedBy string_cmp (keys members) }
+{
+    let mut lone = Lone::Nothing;
+    for (name, value) in members.iter_mut() {
+        let Some(number) = key_number(form, name.as_str()) else {
+            return Err(ReadFault::Bad(Fault::unknown_key(alloc, name.as_str())?));
+        };
+        lone = lone.and(form[number], value.take());
+    }
+    Ok(lone)
+}
+
+/// The one key of an object under which something stands, with what stands there; the fault of a value that is no object, or of its first
+/// key that is none of these; else the wrong form, where something stands under no key or under more than one.
+#[tactic(auto, using(crate::proofs::SoleLemmas::sole_refused, crate::proofs::SoleLemmas::sole_no_object))]
+pub fn sole(alloc: Global, value: Value, form: &[Key]) -> Result<(Key, Value), ReadFault>
+    requires { are_apart form.now ≡ true }
+    ensures { GivesBy one_seen result (sole_under form.now (view value)) }
+{
+    match find_lone(alloc, form, members(alloc, value)?)? {
+        Lone::One(key, value) => Ok((key, value)),
+        Lone::Nothing | Lone::More => Err(ReadFault::wrong_form(alloc)),
+    }
 }

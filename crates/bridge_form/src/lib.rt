@@ -6,12 +6,13 @@
 //! {"name": "a", "longer": [1], "colour": null}
 //! ```
 //!
-//! is to be a lifetime, which has the keys `name`, `longer` and `shorter`. `Fields::of` passes over its members once, gives each the number
-//! of its key in the form, and stops at `colour`, which is none of them: `unknown key` at `/colour`, though null stands there. Without
+//! is to be a lifetime, which has the keys `name`, `longer` and `shorter`. `Fields::of` passes over its members once, puts each into the slot
+//! of its key, and stops at `colour`, which is none of them: `unknown key` at `/colour`, though null stands there. Without
 //! `colour`, `Fields::next` gives `name` with `"a"`, `longer` with the list, and `shorter` with nothing, one after the other.
 //!
 //! Of some objects one key alone may have something under it, as of a type: `{"box": "u8", "str": null}`. `sole` passes over the
-//! members in the same way, and has `box` with `"u8"`; where there are none or more, it has the wrong form.
+//! members once too, keeps the first under which something stands, and has `box` with `"u8"`; where there are none or more, it has the
+//! wrong form.
 //!
 //! A `Fault` is told with a `Pointer` (RFC 6901) to its place, which grows from the inside out: what is wrong in the first entry of the list
 //! is at `/0`, and `in_member` makes `/longer/0` of that. Values are handed on by value, and null is as good as no member at all.
@@ -27,7 +28,7 @@ mod objects;
 mod pointer;
 
 pub use fault::{Fault, InputKind, ReadFault};
-pub use fields::{Fields, Member, sole};
+pub use fields::{Fields, sole};
 pub use keys::Key;
 pub use objects::{
     entries, in_entry, in_member, in_member_named, members, object, owned_text, text, under,

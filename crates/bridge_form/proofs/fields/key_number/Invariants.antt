@@ -1,5 +1,5 @@
 use Rattle.std.proofs.Common.{◌≡◌, take, None}
-use Rattle.bridge_form.specs.inside.Numbering.{key_number}
+use Rattle.bridge_form.specs.inside.Filling.{key_number}
 use Rattle.bridge_form.proofs.fields.key_number.Given as goal
 
 abbrev pub invariant-loop-number : goal.invariant-loop-number

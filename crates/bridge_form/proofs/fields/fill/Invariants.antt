@@ -1,0 +1,14 @@
+use Rattle.std.proofs.Common.{◌≡◌, length}
+use Rattle.std.specs.BTreeMap.IterMut.{iter_mut_rest}
+use Rattle.serde_json.specs.View.{members_view}
+use Rattle.bridge_form.specs.Left.{slots_seen}
+use Rattle.bridge_form.specs.inside.Filling.{empty_slots, slots_after}
+use Rattle.bridge_form.proofs.fields.fill.Given as goal
+
+abbrev pub invariant-loop-name : goal.invariant-loop-name
+invariant-loop-name l =
+    (goal.iterator-loop-name).can_next l.name-iterator
+    × (goal.iterator-loop-name).is_finite l.name-iterator
+    × (length l.slots.items ≡ length l.form)
+    × (slots_after l.form (slots_seen l.slots.items) (members_view (iter_mut_rest l.name-iterator))
+    ≡ slots_after l.form (empty_slots (length l.form)) (members_view l.fn.members.entries))

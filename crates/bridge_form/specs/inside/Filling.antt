@@ -1,0 +1,59 @@
+-- What stands under the keys of a form, as code puts it into slots, or finds the only key with something under it.
+use Rattle.std.specs.Prelude.{ℕ, zero, suc, List, [], ◌∷◌, get_or, slice_set, Option, Some, None, option_map, Result, Ok, Err, if◌then◌else◌}
+use Rattle.std.specs.Str.{bytes_eq}
+use Rattle.serde_json.specs.Data.{Data, Members, no_members, member}
+use Rattle.serde_json.specs.View.{view}
+use Rattle.bridge_form.specs.declared.fault.Fault.{Fault}
+use Rattle.bridge_form.specs.declared.fault.InputKind.TheVariants as kind
+use Rattle.bridge_form.specs.declared.fields.Lone.{Lone}
+use Rattle.bridge_form.specs.declared.fields.Lone.TheVariants as lone
+use Rattle.bridge_form.specs.declared.keys.Key.{Key}
+use Rattle.bridge_form.specs.declared.keys.Key.TheVariants as key
+use Rattle.bridge_form.specs.declared.pointer.Step.TheVariants as step
+use Rattle.bridge_form.specs.Keys.{key_text}
+use Rattle.bridge_form.specs.Reading.{here, within, not_null}
+use Rattle.bridge_form.specs.Left.{Slots}
+
+-- so many slots in which nothing lies
+abbrev pub empty_slots : ℕ → Slots
+empty_slots zero = []
+empty_slots (suc n) = None ∷ empty_slots n
+
+-- the number of the first key with that text
+abbrev pub key_number : List Key → List ℕ → Option ℕ
+key_number [] text = None
+key_number (k ∷ keys) text = if bytes_eq (key_text k) text then Some 0 else option_map (λ n. suc n) (key_number keys text)
+
+abbrev pub or_unknown : {A : Type 0} → Option ℕ → List ℕ → (ℕ → Result A Fault) → Result A Fault
+or_unknown (Some n) text next = next n
+or_unknown None text next = Err (within (step.Member text) (here kind.UnknownKey))
+
+-- the slots after these members, up to the first whose key is none of the form
+abbrev pub slots_after : List Key → Slots → Members → Result Slots Fault
+slots_after keys slots no_members = Ok slots
+slots_after keys slots (member text d ms) = or_unknown (key_number keys text) text (λ n. slots_after keys (slice_set slots n (not_null d)) ms)
+
+-- under which key alone something stands, with what stands there; none where something stands under more than one
+abbrev pub Tally : Type 0
+Tally = Option (Option (Key × Data))
+
+-- one more
+abbrev pub and_one : Tally → Key × Data → Tally
+and_one None one = None
+and_one (Some None) one = Some (Some one)
+and_one (Some (Some other)) one = None
+
+-- one more, where something stands there
+abbrev pub and_if : Tally → Key → Option Data → Tally
+and_if tally key None = tally
+and_if tally key (Some d) = and_one tally (key, d)
+
+-- these members after others, up to the first whose key is none of the form
+abbrev pub tallied : List Key → Tally → Members → Result Tally Fault
+tallied keys tally no_members = Ok tally
+tallied keys tally (member text d ms) = or_unknown (key_number keys text) text (λ n. tallied keys (and_if tally (get_or keys n key.Root) (not_null d)) ms)
+
+abbrev pub lone_seen : Lone → Tally
+lone_seen lone.Nothing = Some None
+lone_seen (lone.One k v) = Some (Some (k, view v))
+lone_seen lone.More = None
