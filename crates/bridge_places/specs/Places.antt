@@ -25,14 +25,6 @@ module_places modules k number = of_found (λ m. places_in k number 0 m.items) (
 abbrev pub places_of : List Module → Kind → List ItemPlace
 places_of modules k = flat_map (module_places modules k) (module_order modules)
 
--- the kinds in the order in which they are lowered
-abbrev pub kinds : List Kind
-kinds = kind.OutStruct ∷ kind.Struct ∷ kind.Opaque ∷ kind.Enum ∷ kind.Trait ∷ kind.Function ∷ []
-
--- the places of all items in the order in which they are lowered
-abbrev pub lowering_order : List Module → List ItemPlace
-lowering_order modules = flat_map (places_of modules) kinds
-
 -- the places of a kind in lists of places by kinds
 abbrev pub of_kind : Kind → KindPlaces → List ItemPlace
 of_kind kind.OutStruct places = places.out_structs

@@ -3,7 +3,8 @@ use Rattle.std.proofs.Common.{◌≡◌, ◌⊎◌, ◌↔◌, inl, inr, List, [
 use Rattle.std.specs.Prelude.{⊤}
 use Rattle.std.specs.List.{Contains, flat_map}
 use Rattle.std.proofs.lemmas.List.Elements.{Contains-append_left, Contains-append_right, Contains-append_cases}
-use Rattle.bridge_telling.specs.Telling.{TellsExactly, TellsGiven, TellsPlaces}
+use Rattle.bridge_telling.specs.Telling.{TellsExactly, TellsPlaces}
+use Rattle.bridge_telling.specs.inside.Given.{TellsGiven}
 use Rattle.bridge_telling.proofs.ExactLemmas.{in_cases, in_first, in_none, in_rest}
 use Rattle.bridge_telling.proofs.GivenLemmas.{in_map, mapped}
 

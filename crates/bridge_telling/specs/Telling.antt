@@ -10,11 +10,6 @@ one_if passes e = if passes then e ∷ [] else []
 abbrev pub TellsExactly : {E : Type 0} → List E → (E → Type 0) → Type 0
 TellsExactly {E} told Says = (e : E) → Contains told e ↔ Says e
 
--- it is said of each in the list; and, given that `Given` holds, the list isn't empty where it is said of anything
-pub record TellsGiven (Given : Type 0) {E : Type 0} (told : List E) (Says : E → Type 0) : Type 0 where
-  pub each : (e : E) → Contains told e → Says e
-  pub some : Given → (e : E) → Says e → (one : E) × Contains told one
-
 -- it is said of each in the list; and wherever it is said of anything, the list has something at the same place
 pub record TellsPlaces {E C : Type 0} (place : E → C) (told : List E) (Says : E → Type 0) : Type 0 where
   pub each : (e : E) → Contains told e → Says e

@@ -1,5 +1,5 @@
 -- The words of a command line, and the command that they ask for.
-use Rattle.std.specs.Prelude.{◌≡◌, ◌≤◌, ◌^◌, ◌+◌, ◌-◌, ◌*◌, ◌&&◌, ⊤, ℕ, Bool, true, false, List, [], ◌∷◌, map, codes, decimal, nat_le, nat_lt, string_bytes, String, Option, Some, None, option_and_then, option_map, if◌then◌else◌}
+use Rattle.std.specs.Prelude.{◌≡◌, ◌^◌, ◌+◌, ◌-◌, ◌*◌, ◌&&◌, ℕ, Bool, true, false, List, [], ◌∷◌, map, codes, decimal, nat_le, nat_lt, string_bytes, String, Option, Some, None, option_and_then, option_map, if◌then◌else◌}
 use Rattle.std.specs.Str.{bytes_eq}
 use Rattle.std.specs.declared.alloc.Global.{Global}
 use Rattle.bridge_tool.specs.declared.command.Command.{Command}
@@ -48,13 +48,6 @@ reads Check = true
 reads (Explain question) = true
 reads (Generate count) = false
 reads Links = true
-
--- what a command makes has from 1 to 10,000 structs, and as many functions
-abbrev pub IsWithin : Command → Type 0
-IsWithin Check = ⊤
-IsWithin (Explain question) = ⊤
-IsWithin (Generate count) = (1 ≤ count) × (count ≤ most_generated)
-IsWithin Links = ⊤
 
 -- the words ask for the command
 abbrev pub AskFor : List (String Global) → Command → Type 0

@@ -3,7 +3,8 @@
 ghost use Rattle.std.specs.Prelude.{◌≡◌, ◌≤◌, ◌<◌, ◌^◌, String, IfSome, MatchOption, codes, decimal, map};
 ghost use Rattle.std.specs.Prelude.{string_bytes, if◌then◌else◌, None};
 ghost use Rattle.std.specs.Str.{bytes_eq};
-ghost use Rattle.bridge_tool.specs.Commands.{IsWithin, command_named, command_of, digits_after, explaining};
+ghost use Rattle.bridge_tool.specs.Commands.{command_named, command_of, digits_after, explaining};
+ghost use Rattle.bridge_tool.specs.inside.Within.{IsWithin};
 ghost use Rattle.bridge_tool.specs.Commands.{generating, generating_all, number_in, reads};
 
 use bridge_explain::Question;

@@ -19,10 +19,10 @@ use Rattle.hir_rules.specs.Broken.{IsBroken, LoweringBreaks}
 use Rattle.hir_usage_notes.specs.declared.definitions.LoweredDefinitions.{LoweredDefinitions}
 use Rattle.hir_lower.specs.Acceptance.{AreAccepted}
 use Rattle.hir_lower.specs.Answers.{AnswersDeclarations, AreToldOf}
-use Rattle.hir_lower.specs.Contexts.{AnswersContext}
 use Rattle.hir_lower.specs.Refusals.{IsRefusal}
 use Rattle.hir_lower.specs.declared.fault.LowerFault.{LowerFault}
 use Rattle.hir_lower.specs.declared.fault.LowerFault.TheVariants as fault
+use Rattle.hir_lower.specs.inside.Contexts.{AnswersContext}
 
 first_of : (rs : List LoweringReport) → rs ≢ [] → (r : LoweringReport) × Contains rs r
 first_of [] some = absurd (some refl)

@@ -1,23 +1,16 @@
 -- The context of declarations: the definitions of all their items, each with how it is used and with the path of its module.
-use Rattle.std.specs.Prelude.{◌≡◌, ⊤, ℕ, List, Result, Ok, Err, map}
+use Rattle.std.specs.Prelude.{◌≡◌, List, map}
 use Rattle.bridge_ast.specs.declared.place.ItemPlace.{ItemPlace}
 use Rattle.bridge_decl.specs.declared.modules.Module.{Module}
 use Rattle.bridge_places.specs.Places.{places_of}
 use Rattle.bridge_places.specs.declared.kinds.Kind.TheVariants as kind
-use Rattle.hir_backends.specs.Backend.{Backend}
-use Rattle.hir_context.specs.declared.context.TypeContext.{TypeContext}
 use Rattle.hir_context.specs.declared.parts.Definitions.{Definitions}
 use Rattle.hir_context.specs.declared.parts.Listed.{Listed}
-use Rattle.hir_config.specs.declared.config.LoweringConfig.{LoweringConfig}
-use Rattle.hir_number.specs.Naming.{Naming}
 use Rattle.hir_usage_notes.specs.Notes.{HaveUsages}
 use Rattle.hir_usage_notes.specs.declared.definitions.LoweredDefinitions.{LoweredDefinitions}
 use Rattle.hir_lowering.specs.Interface.{Interface}
-use Rattle.hir_lower.specs.Acceptance.{AreAccepted, HoldsByCatalog}
+use Rattle.hir_lower.specs.Acceptance.{AreAccepted}
 use Rattle.hir_lower.specs.Placing.{path_of_place}
-use Rattle.hir_lower.specs.Refusals.{IsRefusal}
-use Rattle.hir_lower.specs.declared.fault.LowerFault.{LowerFault}
-use Rattle.hir_lower.specs.declared.fault.LowerFault.TheVariants as fault
 
 -- these definitions, each with the path of the module of its item
 pub record ListsItems {D : Type 0} (modules : List Module) (places : List ItemPlace) (list : List D) (listed : Listed D) : Type 0 where
@@ -40,9 +33,3 @@ pub record StandForItems (it : Interface) (defs : Definitions) : Type 0 where
   pub used : LoweredDefinitions
   pub noted : HaveUsages lowered used
   pub listed : ListsAllItems it.modules used defs
-
--- the context, or all that is wrong, or want of memory
-abbrev pub AnswersContext : List Module → Backend → LoweringConfig → (ℕ → Naming) → Result TypeContext LowerFault → Type 0
-AnswersContext modules backend config names (Ok tcx) = HoldsByCatalog modules backend config names (λ it. StandForItems it tcx.definitions)
-AnswersContext modules backend config names (Err (fault.Refused told)) = HoldsByCatalog modules backend config names (λ it. IsRefusal it told.items)
-AnswersContext modules backend config names (Err fault.NoMemory) = ⊤

@@ -11,7 +11,8 @@ use Rattle.bridge_grid.specs.ItemBreaks.{FreeFunctionBreaks}
 use Rattle.bridge_grid.specs.Items.{free_function_faults}
 use Rattle.bridge_grid.specs.Telling.{fault_error}
 use Rattle.bridge_order.specs.Catalog.{entry_at}
-use Rattle.bridge_telling.specs.Telling.{TellsExactly, TellsGiven}
+use Rattle.bridge_telling.specs.Telling.{TellsExactly}
+use Rattle.bridge_telling.specs.inside.Given.{TellsGiven}
 use Rattle.bridge_telling.proofs.ExactLemmas.{exactly_both, in_none}
 use Rattle.bridge_telling.proofs.GivenLemmas.{given_after, given_both, given_exactly, given_more, given_unless}
 use Rattle.hir_attrs.specs.Reading.{marks_errors, marks_of}

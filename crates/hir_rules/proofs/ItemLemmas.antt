@@ -17,7 +17,8 @@ use Rattle.bridge_grid.proofs.TypeLemmas.{tells_trait}
 use Rattle.bridge_grid.specs.ItemBreaks.{TraitBreaks}
 use Rattle.bridge_grid.specs.Items.{trait_faults}
 use Rattle.bridge_grid.specs.Telling.{fault_error}
-use Rattle.bridge_telling.specs.Telling.{TellsExactly, TellsGiven, TellsPlaces}
+use Rattle.bridge_telling.specs.Telling.{TellsExactly, TellsPlaces}
+use Rattle.bridge_telling.specs.inside.Given.{TellsGiven}
 use Rattle.bridge_telling.proofs.ExactLemmas.{exactly_both, in_first, in_none, in_one}
 use Rattle.bridge_telling.proofs.GivenLemmas.{given_after, given_both, given_exactly, given_more, given_unless}
 use Rattle.bridge_telling.proofs.PlaceLemmas.{places_both, places_each, places_exactly, places_map, places_unless}

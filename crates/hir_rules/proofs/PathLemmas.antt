@@ -18,7 +18,8 @@ use Rattle.bridge_decl.specs.declared.structs.Struct.{Struct}
 use Rattle.bridge_decl.specs.declared.traits.TraitMethod.{TraitMethod}
 use Rattle.bridge_text.proofs.NameIndexLemmas.{number_of_none}
 use Rattle.bridge_text.specs.NameIndex.{number_of}
-use Rattle.bridge_telling.specs.Telling.{TellsExactly, TellsGiven}
+use Rattle.bridge_telling.specs.Telling.{TellsExactly}
+use Rattle.bridge_telling.specs.inside.Given.{TellsGiven}
 use Rattle.bridge_telling.proofs.ExactLemmas.{exactly_both, exactly_each, in_first, in_none, in_one}
 use Rattle.hir_elide.specs.Numbering.{most}
 use Rattle.hir_number.specs.Breaches.{Anything, At, Broken, Demand, Equal, Nothing, arity_breaches, breaches_of, field_breaches, function_breaches, is_at, method_breaches, own_breaches, same_lifetime, same_path, self_breaches, trait_method_breaches, unknown, unless_own, use_breaches, uses_of, within_limit}

@@ -7,7 +7,7 @@ use Rattle.std.proofs.lemmas.Bool.{ltb-false}
 use Rattle.bridge_decl.specs.declared.lifetimes.LifetimeEnv.{LifetimeEnv}
 use Rattle.bridge_grid.specs.Telling.{fault_error}
 use Rattle.bridge_grid.specs.declared.fault.TypeFault.{TypeFault}
-use Rattle.bridge_telling.specs.Telling.{TellsGiven}
+use Rattle.bridge_telling.specs.inside.Given.{TellsGiven}
 use Rattle.bridge_telling.proofs.ExactLemmas.{in_first, in_none}
 use Rattle.bridge_telling.proofs.GivenLemmas.{mapped}
 use Rattle.hir_elide.specs.Numbering.{most}

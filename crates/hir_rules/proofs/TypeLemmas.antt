@@ -22,7 +22,8 @@ use Rattle.bridge_grid.specs.declared.part.Part.TheVariants.{Whole}
 use Rattle.bridge_grid.specs.rules.FfiUnsafe.{IsFfiSafe}
 use Rattle.bridge_order.specs.declared.catalog.Catalog.{Catalog}
 use Rattle.bridge_rules.specs.declared.position.Position.TheVariants as position
-use Rattle.bridge_telling.specs.Telling.{TellsExactly, TellsGiven}
+use Rattle.bridge_telling.specs.Telling.{TellsExactly}
+use Rattle.bridge_telling.specs.inside.Given.{TellsGiven}
 use Rattle.bridge_telling.proofs.ExactLemmas.{exactly_both, exactly_each, exactly_none, in_first, in_none, in_one}
 use Rattle.bridge_telling.proofs.GivenLemmas.{given_both, given_each, given_exactly, given_map}
 use Rattle.hir_backends.specs.declared.support.BackendAttrSupport.{BackendAttrSupport}

@@ -1,0 +1,2 @@
+-- What the lemmas tell one another.
+pub mod Given
