@@ -25,15 +25,19 @@ pub struct Env {
     pub(crate) aliases: usize,
 }
 
-/// By hand, so that where one is let go the proof has one call.
+/// By hand, so that where one is let go the proof has one call. The modules go last: where a large part goes after many small ones,
+/// the allocator joins all of these first.
 impl Drop for Env {
     fn drop(self) {
         let Env {
-            modules: _,
-            scopes: _,
-            ends: _,
+            modules,
+            scopes,
+            ends,
             aliases: _,
         } = self;
+        drop(scopes);
+        drop(ends);
+        drop(modules);
     }
 }
 

@@ -1,5 +1,6 @@
 -- The slots of an object, as they are filled and read.
-use Rattle.std.proofs.Common.{◌≡◌, ℕ, zero, suc, ◌+◌, ◌<◌, Bool, true, false, not, ◌||◌, ◌&&◌, List, [], ◌∷◌, ◌++◌, map, length, drop, get_or, take, Option, Some, None, option_map, option_and_then, is_some, Result, Ok, Err, String, Global, Ordering, Less, Equal, Greater, string_bytes, string_cmp, nat_cmp, is_eq, slice_get, slice_set, refl, sym, ap, ◌∙◌, bytes_eq, add-one, arith, if◌then◌else◌}
+use Rattle.std.proofs.Common.{◌≡◌, ℕ, zero, suc, ◌+◌, ◌<◌, Bool, true, false, not, ◌||◌, ◌&&◌, List, [], ◌∷◌, ◌++◌, map, length, drop, get_or, replicate, take, Option, Some, None, option_map, option_and_then, is_some, Result, Ok, Err, String, Global, Ordering, Less, Equal, Greater, string_bytes, string_cmp, nat_cmp, is_eq, slice_get, slice_set, refl, sym, ap, ◌∙◌, bytes_eq, add-one, arith, if◌then◌else◌}
+use Rattle.std.proofs.lemmas.List.{replicate_more}
 use Rattle.std.proofs.lemmas.Map.Text.{is_eq-slice_cmp}
 use Rattle.std.proofs.lemmas.Slice.Eq.{bytes_eq-Decides}
 use Rattle.std.specs.Cmp.Lexicographic.{slice_cmp}
@@ -15,7 +16,7 @@ use Rattle.bridge_form.specs.declared.keys.Key.{Key}
 use Rattle.bridge_form.specs.declared.fault.Fault.{Fault}
 use Rattle.bridge_form.specs.Keys.{key_text}
 use Rattle.bridge_form.specs.Left.{Slots, slots_seen, are_apart}
-use Rattle.bridge_form.specs.inside.Filling.{empty_slots, key_number, or_unknown, slots_after}
+use Rattle.bridge_form.specs.inside.Filling.{key_number, or_unknown, slots_after}
 use Rattle.bridge_form.specs.Form.{members_in}
 use Rattle.bridge_form.specs.Reading.{is_one_of, known, not_null, only, under, unless_known}
 use Rattle.bridge_form.specs.Given.{Stops}
@@ -61,17 +62,12 @@ no_key_yet ks i k written text lt before named e = rw add-one (no_key ks i k tex
 
 -- ---- slots
 
--- one more in which nothing lies
-empty_more : (n : ℕ) → empty_slots n ++ None ∷ [] ≡ empty_slots (suc n)
-empty_more zero = refl
-empty_more (suc n) = ap (λ slots. None ∷ slots) (empty_more n)
-
 seen_more : (vs : List (Option Value)) (v : Option Value) → slots_seen (vs ++ v ∷ []) ≡ slots_seen vs ++ option_map view v ∷ []
 seen_more [] v = refl
 seen_more (x ∷ vs) v = ap (λ slots. option_map view x ∷ slots) (seen_more vs v)
 
-pub one_empty_more : (vs : List (Option Value)) (v : Option Value) (n : ℕ) → slots_seen vs ≡ empty_slots n → option_map view v ≡ None → slots_seen (vs ++ v ∷ []) ≡ empty_slots (n + 1)
-one_empty_more vs v n e none = rw add-one (seen_more vs v ∙ rw (none, e) (empty_more n))
+pub one_empty_more : (vs : List (Option Value)) (v : Option Value) (n : ℕ) → slots_seen vs ≡ replicate n None → option_map view v ≡ None → slots_seen (vs ++ v ∷ []) ≡ replicate (n + 1) None
+one_empty_more vs v n e none = seen_more vs v ∙ rw (none, e) (replicate_more n None)
 
 pub seen_set : (vs : List (Option Value)) (n : ℕ) (v : Option Value) → slots_seen (slice_set vs n v) ≡ slice_set (slots_seen vs) n (option_map view v)
 seen_set [] n v = refl
@@ -192,7 +188,7 @@ found_case Equal false found d e = absurd cc
 found_case Greater true found d e = absurd cc
 found_case Greater false found d e = refl
 
-member_at : (k : Key) (text : List ℕ) (d : Data) (ms : Members) → get_member (key_text k) (member text d ms) ≡ (if bytes_eq (key_text k) text then Some d else get_member (key_text k) ms)
+pub member_at : (k : Key) (text : List ℕ) (d : Data) (ms : Members) → get_member (key_text k) (member text d ms) ≡ (if bytes_eq (key_text k) text then Some d else get_member (key_text k) ms)
 member_at k text d ms = found_case (slice_cmp nat_cmp (key_text k) text) (bytes_eq (key_text k) text) (get_member (key_text k) ms) d (is_eq-slice_cmp (key_text k) text)
 
 pub reached : (k : Key) (text : List ℕ) (d : Data) (ms : Members) → bytes_eq (key_text k) text ≡ true → get_member (key_text k) (member text d ms) ≡ Some d
@@ -264,7 +260,7 @@ latest_none : (o : Option Data) → latest None o ≡ option_and_then not_null o
 latest_none None = refl
 latest_none (Some d) = refl
 
-over_empty : (keys : List Key) (ms : Members) → over keys (empty_slots (length keys)) ms ≡ map (λ k. under k (object ms)) keys
+over_empty : (keys : List Key) (ms : Members) → over keys (replicate (length keys) None) ms ≡ map (λ k. under k (object ms)) keys
 unfolding under
 over_empty [] ms = refl
 over_empty (k ∷ keys) ms = rw (latest_none (get_member (key_text k) ms), over_empty keys ms) refl
@@ -311,21 +307,21 @@ is_object (Data.array ds) ms e = absurd cc
 is_object (object held) ms e = cc
 
 module _ (keys : List Key) (es : List (String Global × Value)) (apart : are_apart keys ≡ true) (sorted : IsStrictlySortedBy string_cmp (keys_of es)) where
-  pub opened : (d : Data) (found : Slots) → members_in d ≡ Ok (members_view es) → slots_after keys (empty_slots (length keys)) (members_view es) ≡ Ok found
+  pub opened : (d : Data) (found : Slots) → members_in d ≡ Ok (members_view es) → slots_after keys (replicate (length keys) None) (members_view es) ≡ Ok found
       → (only keys d ≡ Ok tt) × (found ≡ map (λ k. under k d) keys)
   unfolding only
   opened d found is e =
       let ms = members_view es in
       let at = is_object d ms is in
-      rw at (sym (as_known keys (empty_slots (length keys)) ms) ∙ ap unit_of e, slots_after_over keys (empty_slots (length keys)) ms found apart (distinct es sorted) e ∙ over_empty keys ms)
+      rw at (sym (as_known keys (replicate (length keys) None) ms) ∙ ap unit_of e, slots_after_over keys (replicate (length keys) None) ms found apart (distinct es sorted) e ∙ over_empty keys ms)
 
-  pub refused : (d : Data) (fault : ReadFault) → members_in d ≡ Ok (members_view es) → Stops fault (slots_after keys (empty_slots (length keys)) (members_view es)) → Stops fault (only keys d)
+  pub refused : (d : Data) (fault : ReadFault) → members_in d ≡ Ok (members_view es) → Stops fault (slots_after keys (replicate (length keys) None) (members_view es)) → Stops fault (only keys d)
   unfolding only
   refused d NoMemory is e = tt
   refused d (Bad fault) is e =
       let ms = members_view es in
       let at = is_object d ms is in
-      rw at (sym (as_known keys (empty_slots (length keys)) ms) ∙ ap unit_of e)
+      rw at (sym (as_known keys (replicate (length keys) None) ms) ∙ ap unit_of e)
 
 pub no_object : (keys : List Key) (d : Data) (fault : ReadFault) → Stops fault (members_in d) → Stops fault (only keys d)
 unfolding members_in only

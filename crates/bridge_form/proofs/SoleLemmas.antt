@@ -1,11 +1,8 @@
 -- Whether something stands under one key of an object alone.
-use Rattle.std.proofs.Common.{◌≡◌, ℕ, suc, Bool, true, false, not, List, [], ◌∷◌, get_or, Option, Some, None, option_map, option_and_then, Result, Ok, Err, String, Global, Ordering, Less, Equal, Greater, string_cmp, nat_cmp, is_eq, refl, sym, ap, ◌∙◌, bytes_eq, if◌then◌else◌}
-use Rattle.std.proofs.lemmas.Map.Text.{is_eq-slice_cmp}
+use Rattle.std.proofs.Common.{◌≡◌, ℕ, suc, Bool, true, false, not, List, [], ◌∷◌, get_or, Option, Some, None, option_map, option_and_then, Result, Ok, Err, String, Global, string_cmp, refl, sym, ap, ◌∙◌, bytes_eq, if◌then◌else◌}
 use Rattle.std.proofs.lemmas.Slice.Eq.{bytes_eq-Decides}
-use Rattle.std.specs.Cmp.Lexicographic.{slice_cmp}
 use Rattle.std.specs.List.Sorted.{IsStrictlySortedBy}
 use Rattle.std.specs.Map.{keys_of}
-use Rattle.std.specs.Ordering.{match_ordering}
 use Rattle.serde_json.specs.Data.{Data, Members, no_members, member, object}
 use Rattle.serde_json.specs.Find.{get_member}
 use Rattle.serde_json.specs.View.{members_view}
@@ -22,7 +19,7 @@ use Rattle.bridge_form.specs.Left.{are_apart}
 use Rattle.bridge_form.specs.inside.Filling.{Tally, and_if, and_one, key_number, tallied}
 use Rattle.bridge_form.specs.Form.{add_live, live, members_in, sole, sole_under}
 use Rattle.bridge_form.specs.Reading.{here, is_one_of, known, not_null, only, under}
-use Rattle.bridge_form.proofs.FieldLemmas.{AreDistinct, both, distinct, given, is_object, known_case, knows, neither, no_object, none_of, unit_of}
+use Rattle.bridge_form.proofs.FieldLemmas.{AreDistinct, both, distinct, given, is_object, known_case, knows, member_at, neither, no_object, none_of, unit_of}
 
 -- ---- tallies
 
@@ -74,18 +71,13 @@ swapped tally k j (Some d) (Some e) = twice tally (k, d) (j, e) ∙ sym (twice t
 
 -- ---- one member more
 
-under_case : (o : Ordering) (b : Bool) (found : Option Data) (d : Data) → is_eq o ≡ b
-    → option_and_then not_null (match_ordering o found (Some d) found) ≡ (if b then not_null d else option_and_then not_null found)
-under_case Less true found d e = absurd cc
-under_case Less false found d e = refl
-under_case Equal true found d e = refl
-under_case Equal false found d e = absurd cc
-under_case Greater true found d e = absurd cc
-under_case Greater false found d e = refl
-
 first_under : (k : Key) (text : List ℕ) (d : Data) (ms : Members) → under k (object (member text d ms)) ≡ (if bytes_eq (key_text k) text then not_null d else under k (object ms))
 unfolding under
-first_under k text d ms = under_case (slice_cmp nat_cmp (key_text k) text) (bytes_eq (key_text k) text) (get_member (key_text k) ms) d (is_eq-slice_cmp (key_text k) text)
+first_under k text d ms = ap (λ (found : Option Data). option_and_then not_null found) (member_at k text d ms) ∙ under_case (bytes_eq (key_text k) text)
+  where
+    under_case : (b : Bool) → option_and_then not_null (if b then Some d else get_member (key_text k) ms) ≡ (if b then not_null d else option_and_then not_null (get_member (key_text k) ms))
+    under_case true = refl
+    under_case false = refl
 
 none_under : (k : Key) (text : List ℕ) (ms : Members) → key_text k ≡ text → get_member text ms ≡ None → under k (object ms) ≡ None
 unfolding under

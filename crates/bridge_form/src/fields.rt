@@ -1,6 +1,6 @@
 //! Objects: what stands under each key of the form is put into a slot of its own, and the slots are then read in order.
 
-ghost use Rattle.std.specs.Prelude.{◌≡◌, ℕ, ◌+◌, ◌<◌, ◌≤◌, [], ◌∷◌, true, drop, length, List, IfOk, IfSome, None, Some, option_map, slice_get, slice_set, string_cmp};
+ghost use Rattle.std.specs.Prelude.{◌≡◌, ℕ, ◌+◌, ◌<◌, ◌≤◌, [], ◌∷◌, true, drop, length, replicate, List, IfOk, IfSome, None, Some, option_map, slice_get, slice_set, string_cmp};
 ghost use Rattle.std.specs.BTreeMap.{keys};
 ghost use Rattle.std.specs.Str.{bytes_eq};
 ghost use Rattle.std.specs.List.Sorted.{IsStrictlySortedBy};
@@ -11,7 +11,7 @@ ghost use Rattle.bridge_form.specs.Form.{sole_under};
 ghost use Rattle.bridge_form.specs.Reading.{not_null, under};
 ghost use Rattle.bridge_form.specs.Given.{GivesBy};
 ghost use Rattle.bridge_form.specs.Left.{IsLeft, Opens, are_apart, one_seen, seen, slots_seen};
-ghost use Rattle.bridge_form.specs.inside.Filling.{and_if, empty_slots, key_number, lone_seen, slots_after, tallied};
+ghost use Rattle.bridge_form.specs.inside.Filling.{and_if, key_number, lone_seen, slots_after, tallied};
 
 use crate::fault::{Fault, ReadFault};
 use crate::keys::Key;
@@ -123,7 +123,7 @@ fn key_number(keys: &[Key], name: &str) -> Option<usize>
 
 /// So many slots in which nothing lies.
 fn empty_slots(alloc: Global, count: usize) -> Result<Vec<Option<Value>>, NoMemory>
-    ensures { IfOk result (λ slots. (slots_seen slots.items ≡ empty_slots count)
+    ensures { IfOk result (λ slots. (slots_seen slots.items ≡ replicate count None)
         × (length slots.items ≡ count)) }
 {
     let mut slots = Vec::with_capacity(alloc, count)?;
@@ -140,7 +140,7 @@ fn fill(
     mut members: Map<String, Value>,
 ) -> Result<Vec<Option<Value>>, ReadFault>
     ensures filled { GivesBy (λ slots. slots_seen slots.items) result
-        (slots_after form.now (empty_slots (length form.now)) (members_view members.entries)) }
+        (slots_after form.now (replicate (length form.now) None) (members_view members.entries)) }
     ensures long { IfOk result (λ slots. length slots.items ≡ length form.now) }
     ensures ordered { IsStrictlySortedBy string_cmp (keys members) }
 {

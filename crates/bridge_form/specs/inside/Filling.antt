@@ -1,5 +1,5 @@
 -- What stands under the keys of a form, as code puts it into slots, or finds the only key with something under it.
-use Rattle.std.specs.Prelude.{ℕ, zero, suc, List, [], ◌∷◌, get_or, slice_set, Option, Some, None, option_map, Result, Ok, Err, if◌then◌else◌}
+use Rattle.std.specs.Prelude.{ℕ, suc, List, [], ◌∷◌, get_or, slice_set, Option, Some, None, option_map, Result, Ok, Err, if◌then◌else◌}
 use Rattle.std.specs.Str.{bytes_eq}
 use Rattle.serde_json.specs.Data.{Data, Members, no_members, member}
 use Rattle.serde_json.specs.View.{view}
@@ -13,11 +13,6 @@ use Rattle.bridge_form.specs.declared.pointer.Step.TheVariants as step
 use Rattle.bridge_form.specs.Keys.{key_text}
 use Rattle.bridge_form.specs.Reading.{here, within, not_null}
 use Rattle.bridge_form.specs.Left.{Slots}
-
--- so many slots in which nothing lies
-abbrev pub empty_slots : ℕ → Slots
-empty_slots zero = []
-empty_slots (suc n) = None ∷ empty_slots n
 
 -- the number of the first key with that text
 abbrev pub key_number : List Key → List ℕ → Option ℕ
