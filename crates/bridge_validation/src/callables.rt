@@ -1,6 +1,6 @@
 //! What is told of a method of a type, or of a function.
 
-ghost use Rattle.std.specs.Prelude.{◌≡◌, ◌++◌, ◌&&◌, [], cond, length, nat_lt, OnOk, Some};
+ghost use Rattle.std.specs.Prelude.{◌≡◌, ◌++◌, ◌&&◌, [], cond, length, nat_lt, OnOk, option_copied};
 ghost use Rattle.std.specs.List.{list_any};
 ghost use Rattle.bridge_leaves.specs.Limits.{most_leaves};
 ghost use Rattle.bridge_report.specs.InContext.{callable_of, receiver_name};
@@ -11,7 +11,6 @@ ghost use Rattle.hir_reports.specs.Texts.{plain_error};
 ghost use Rattle.hir_reports.specs.declared.rule.Rule.TheVariants as rule;
 ghost use Rattle.hir_skeleton.specs.NamedLeaves.{borrowing_leaves};
 ghost use Rattle.hir_types.specs.Named.{lifetimes_in, lifetimes_named};
-ghost use Rattle.hir_types.specs.Returns.{error_of, success_of, type_in};
 ghost use Rattle.hir_validation.specs.Signatures.{signature_errors};
 ghost use Rattle.hir_validation.specs.Told.{method_rule_errors};
 
@@ -21,7 +20,7 @@ use bridge_report::CallableId;
 use hir_definitions::Method;
 use hir_life::{Lifetime, LifetimeEnv, MaybeStatic};
 use hir_reports::{ErrorStore, Rule};
-use hir_types::{OutType, OutputOnly, ReturnType};
+use hir_types::OutType;
 use hir_validation::{Validation, tell_if};
 use std::alloc::Global;
 
@@ -42,10 +41,13 @@ fn is_unnamed(env: &LifetimeEnv, lifetime: MaybeStatic<Lifetime>) -> bool
     }
 }
 
-/// Whether a lifetime of a type has none.
-fn has_unnamed(env: &LifetimeEnv, ty: &OutType) -> bool
-    ensures { result ≡ list_any (is_unnamed env.now) (lifetimes_in (Some ty.now)) }
+/// Whether a lifetime of a type has none; false where there is no type.
+fn has_unnamed(env: &LifetimeEnv, ty: Option<&OutType>) -> bool
+    ensures { result ≡ list_any (is_unnamed env.now) (lifetimes_in (option_copied ty.entry)) }
 {
+    let Some(ty) = ty else {
+        return false;
+    };
     for lifetime in ty.lifetimes() {
         if is_unnamed(env, lifetime) {
             return true;
@@ -54,34 +56,13 @@ fn has_unnamed(env: &LifetimeEnv, ty: &OutType) -> bool
     false
 }
 
-/// Whether one of what comes of success has none.
-fn succeeds_unnamed(env: &LifetimeEnv, output: &ReturnType<OutputOnly>) -> bool
-    ensures { result ≡ list_any (is_unnamed env.now)
-        (lifetimes_in (type_in (success_of output.now))) }
-{
-    match output.success_type().as_type() {
-        Some(ty) => has_unnamed(env, ty),
-        None => false,
-    }
-}
-
-/// Whether one of an error has none.
-fn fails_unnamed(env: &LifetimeEnv, output: &ReturnType<OutputOnly>) -> bool
-    ensures { result ≡ list_any (is_unnamed env.now) (lifetimes_in (error_of output.now)) }
-{
-    match output {
-        ReturnType::Fallible(_, Some(ty)) => has_unnamed(env, ty),
-        _ => false,
-    }
-}
-
 /// Whether a lifetime that a method returns has none.
 fn returns_unnamed(method: &Method) -> bool
     ensures { result ≡ list_any (is_unnamed method.now.lifetime_env)
         (lifetimes_named method.now.output) }
 {
-    let env = &method.lifetime_env;
-    succeeds_unnamed(env, &method.output) || fails_unnamed(env, &method.output)
+    let (env, output) = (&method.lifetime_env, &method.output);
+    has_unnamed(env, output.success_type().as_type()) || has_unnamed(env, output.error_type())
 }
 
 /// A context that is tested, with its leaves counted.

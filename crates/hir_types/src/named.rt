@@ -3,29 +3,16 @@
 ghost use Rattle.std.specs.Prelude.{◌≡◌, IfOk, OnOk, option_copied};
 ghost use Rattle.std.specs.Fn.{CalledAt};
 ghost use Rattle.std.specs.List.{FoldsTo};
-ghost use Rattle.hir_types.specs.Returns.{error_of};
 ghost use Rattle.hir_types.specs.Named.{ListsNumbers, contained, lifetimes_in, if_any, lifetimes_named};
 ghost use Rattle.hir_types.specs.inside.Numbers.{with_number, with_numbers};
 
-use crate::positions::{OutputOnly, TyPosition};
-use crate::returns::{ReturnType, SuccessType};
-use crate::types::{HirType, OutType};
+use crate::positions::OutputOnly;
+use crate::returns::ReturnType;
+use crate::types::OutType;
 use bridge_decl::NoMemory;
 use hir_life::{Lifetime, MaybeStatic};
 use std::alloc::Global;
 use std::collections::BTreeSet;
-
-impl<P: TyPosition> ReturnType<P> {
-    /// The type of the error, where there is one.
-    fn error_type(&self) -> Option<&HirType<P>>
-        ensures { option_copied result ≡ error_of self.now }
-    {
-        match self {
-            ReturnType::Fallible(_, Some(error)) => Some(error),
-            _ => None,
-        }
-    }
-}
 
 /// Adds the number to the set, where there is one.
 fn add_number(

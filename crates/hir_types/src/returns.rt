@@ -1,10 +1,10 @@
 //! Returns.
 
 ghost use Rattle.std.specs.Prelude.{◌≡◌, ◌↔◌, IsTrue, option_copied};
-ghost use Rattle.hir_types.specs.Returns.{GivesNothing, IsWritten, primitive_written, success_of, type_in};
+ghost use Rattle.hir_types.specs.Returns.{GivesNothing, IsWritten, error_of, primitive_written, success_of, type_in};
 
-use crate::positions::{OutputOnly, TyPosition};
-use crate::types::{HirType, OutType};
+use crate::positions::TyPosition;
+use crate::types::HirType;
 use crate::writers::WriteType;
 use hir_ids::PrimitiveType;
 
@@ -58,11 +58,9 @@ impl<P: TyPosition> SuccessType<P> {
     {
         matches!(self, SuccessType::Unit)
     }
-}
 
-impl SuccessType<OutputOnly> {
     /// The type of the value, where there is one.
-    pub fn as_type(&self) -> Option<&OutType>
+    pub fn as_type(&self) -> Option<&HirType<P>>
         ensures { option_copied result ≡ type_in self.now }
     {
         match self {
@@ -111,6 +109,16 @@ impl<P: TyPosition> ReturnType<P> {
             ReturnType::Infallible(success)
             | ReturnType::Fallible(success, _)
             | ReturnType::Nullable(success) => success,
+        }
+    }
+
+    /// The type of the error, where there is one.
+    pub fn error_type(&self) -> Option<&HirType<P>>
+        ensures { option_copied result ≡ error_of self.now }
+    {
+        match self {
+            ReturnType::Fallible(_, Some(error)) => Some(error),
+            _ => None,
         }
     }
 }

@@ -12,7 +12,6 @@ ghost use Rattle.hir_validation.specs.WholeTypes.{whole_type};
 
 use crate::direct::DirectBounds;
 use crate::shorter::{Shorter, shorter_of};
-use crate::signatures::error_type;
 use crate::whole::{WholeType, whole_type};
 use bridge_decl::{NoMemory, Text};
 use hir_context::TypeContext;
@@ -355,7 +354,7 @@ fn tell_output(
         (flat_map (returned_bound_errors tcx.now.definitions direct.now) (contained output.now))) }
 {
     tell_returned(alloc, tcx, direct, output.success_type().as_type(), errors)?;
-    tell_returned(alloc, tcx, direct, error_type(output), errors)
+    tell_returned(alloc, tcx, direct, output.error_type(), errors)
 }
 
 /// Tells of the bounds that the types of a method of a type imply, and that it doesn't declare.

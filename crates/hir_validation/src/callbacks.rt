@@ -45,9 +45,9 @@ fn tells_interface_errors<P: PositionTypes>(tcx: &TypeContext, ty: &HirType<P>) 
 fn can_fail(tcx: &TypeContext, output: &ReturnType<CallbackReturn>) -> bool
     ensures { result ≡ can_fail tcx.now.definitions output.now }
 {
-    match output {
-        ReturnType::Fallible(_, Some(error)) => tells_interface_errors(tcx, error),
-        _ => false,
+    match output.error_type() {
+        Some(error) => tells_interface_errors(tcx, error),
+        None => false,
     }
 }
 

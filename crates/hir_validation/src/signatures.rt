@@ -3,7 +3,6 @@
 ghost use Rattle.std.specs.Prelude.{◌≡◌, ◌++◌, OnOk, option_copied, option_to_list, slice_get};
 ghost use Rattle.std.specs.List.{flat_map};
 ghost use Rattle.hir_reports.specs.Store.{added};
-ghost use Rattle.hir_types.specs.Returns.{error_of, success_of, type_in};
 ghost use Rattle.hir_validation.specs.CallbackReturns.{callback_errors};
 ghost use Rattle.hir_validation.specs.Signatures.{called_errors, param_errors, receiver_errors, self_struct_errors, self_type_errors, signature_errors, lowered_trait_method_errors, lowered_trait_param_errors, types_returned};
 ghost use Rattle.hir_validation.specs.Visited.{visited_errors};
@@ -17,29 +16,9 @@ use hir_definitions::{Method, Param, ParamSelf, StructDef};
 use hir_reports::ErrorStore;
 use hir_types::{
     Callback, CallbackParam, CallbackReturn, Everywhere, HirType, PositionTypes, ReturnType,
-    SelfType, StructPath, SuccessType, TyPosition,
+    SelfType, StructPath, TyPosition,
 };
 use std::alloc::Global;
-
-/// The type of the value that is returned, where there is one.
-fn success_type<P: TyPosition>(output: &ReturnType<P>) -> Option<&HirType<P>>
-    ensures { option_copied result ≡ type_in (success_of output.now) }
-{
-    match output.success_type() {
-        SuccessType::OutType(ty) => Some(ty),
-        SuccessType::Write(_) | SuccessType::Unit => None,
-    }
-}
-
-/// The type of the error, where there is one.
-pub(crate) fn error_type<P: TyPosition>(output: &ReturnType<P>) -> Option<&HirType<P>>
-    ensures { option_copied result ≡ error_of output.now }
-{
-    match output {
-        ReturnType::Fallible(_, Some(error)) => Some(error),
-        _ => None,
-    }
-}
 
 /// The struct that a path names, where there is one.
 fn struct_of<'tcx>(tcx: &'tcx TypeContext, path: &StructPath) -> Option<&'tcx StructDef<Everywhere>>
@@ -162,8 +141,8 @@ impl Validation<'_> {
             (whole_type P.OpaqueOwnership.borrow_of P.StructPath.id_of P.StructPath.lifetimes_of
             P.StructPath.held_of P.callback_of t)) (types_returned output.now))) }
     {
-        self.tell_any(alloc, success_type(output), errors)?;
-        self.tell_any(alloc, error_type(output), errors)
+        self.tell_any(alloc, output.success_type().as_type(), errors)?;
+        self.tell_any(alloc, output.error_type(), errors)
     }
 
     /// Tells of the types that a method of a type or a function takes and returns what visited types break. `NoMemory` where there
