@@ -129,26 +129,28 @@ fn returned(alloc: Global, name: &str) -> Result<Returned, Fail> {
     })
 }
 
-/// A return with whether nothing is returned then, whether its success is the unit, how many types it has, and the lifetimes that it names.
-type ReturnRow = (&'static str, bool, bool, usize, &'static [usize]);
+/// A return with whether nothing is returned then, whether its success is the unit, whether an error has a type, how many types it has, and
+/// the lifetimes that it names.
+type ReturnRow = (&'static str, bool, bool, bool, usize, &'static [usize]);
 
 const RETURNS: [ReturnRow; 7] = [
-    ("unit", true, true, 0, &[]),
-    ("writer", true, false, 0, &[]),
-    ("character", false, false, 1, &[]),
-    ("nullable unit", false, true, 0, &[]),
-    ("fallible unit", false, true, 0, &[]),
-    ("nullable page", false, false, 1, &[1, 4]),
-    ("fallible page", false, true, 1, &[2, 4]),
+    ("unit", true, true, false, 0, &[]),
+    ("writer", true, false, false, 0, &[]),
+    ("character", false, false, false, 1, &[]),
+    ("nullable unit", false, true, false, 0, &[]),
+    ("fallible unit", false, true, false, 0, &[]),
+    ("nullable page", false, false, false, 1, &[1, 4]),
+    ("fallible page", false, true, true, 1, &[2, 4]),
 ];
 
 /// Whether the return is what the row says.
 fn is_returned(alloc: Global, returned: &Returned, row: &ReturnRow) -> Result<bool, Fail> {
-    let (_name, is_nothing, is_unit, types, numbers) = row;
+    let (_name, is_nothing, is_unit, has_error, types, numbers) = row;
     let lifetimes = returned.used_method_lifetimes(alloc)?;
     Ok(
         returned.is_ffi_unit() == *is_nothing
             && returned.success_type().is_unit() == *is_unit
+            && returned.error_type().is_some() == *has_error
             && types_in(returned) == *types
             && has_numbers(&lifetimes, numbers),
     )
