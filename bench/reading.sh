@@ -1,8 +1,8 @@
 #!/bin/sh
 # Times the reading of an input beside the reading of the same bytes as a JSON value: of 0.5, 5 and 40 MB, in milliseconds, first
-# in a process that does nothing else (as the program does, with the memory that it takes at the peak), the least of five processes;
-# then over and over in one process, the least of seven times. The program is made in a temporary folder, beside a copy of the
-# crates, which are proved there first, and is deleted with it.
+# in a process that does nothing else (as the program does, with the memory that it takes at the peak), the least of seven processes
+# of each, in turns; then over and over in one process, the least of seven times. The program is made in a temporary folder, beside a
+# copy of the crates, which are proved there first, and is deleted with it.
 #
 #   bench/reading.sh            makes the program, and times it
 #   bench/reading.sh PROGRAM    times a program that was made before
@@ -121,9 +121,12 @@ PROGRAM
 
 if [ $# -ge 1 ]; then program=$1; else build; fi
 
-# The least time of five processes that read the value, or the whole input, in nanoseconds.
+# The least times of seven processes that read the value and of seven that read the whole input, in turns, in nanoseconds.
 least() {
-    for _ in 1 2 3 4 5; do "$program" "$1" <"$folder/input"; done | sort -n | head -n 1
+    for _ in 1 2 3 4 5 6 7; do echo "$("$program" value <"$folder/input") $("$program" input <"$folder/input")"; done | awk '
+        NR == 1 || $1 < value { value = $1 }
+        NR == 1 || $2 < input { input = $2 }
+        END { printf "%.0f %.0f\n", value, input }'
 }
 
 # The most memory that such a process takes, in KB, where GNU time is there.
@@ -134,7 +137,7 @@ peak() {
 printf '%8s %12s %12s %8s %12s %12s\n' MB value input ratio 'value, MB' 'input, MB'
 for size in 0.5 5 40; do
     input "$(awk -v mb="$size" 'BEGIN { printf "%d", mb * 1000000 }')" >"$folder/input"
-    echo "$(least value) $(least input) $(peak value) $(peak input)" | awk -v mb="$size" '
+    echo "$(least) $(peak value) $(peak input)" | awk -v mb="$size" '
         { printf "%8s %12.1f %12.1f %8.2f %12.0f %12.0f\n", mb, $1 / 1e6, $2 / 1e6, $2 / $1, $3 / 1e3, $4 / 1e3 }'
 done
 printf '\nover and over in one process\n'
