@@ -74,7 +74,7 @@ seen_set [] n v = refl
 seen_set (x ∷ vs) zero v = refl
 seen_set (x ∷ vs) (suc n) v = ap (λ slots. option_map view x ∷ slots) (seen_set vs n v)
 
-pub seen_at : (vs : List (Option Value)) (n : ℕ) (d : Option Value) → n < length vs → slice_get (slots_seen vs) n ≡ Some (option_map view (get_or vs n d))
+seen_at : (vs : List (Option Value)) (n : ℕ) (d : Option Value) → n < length vs → slice_get (slots_seen vs) n ≡ Some (option_map view (get_or vs n d))
 seen_at [] n d lt = absurd (omega arith)
 seen_at (x ∷ vs) zero d lt = refl
 seen_at (x ∷ vs) (suc n) d lt = seen_at vs n d (omega arith)
@@ -134,22 +134,22 @@ module _ (all : List Key) (n : ℕ) (key other : Key) (keys : List Key) (d : Dat
 
 -- ---- tests of keys
 
-pub both : (b c : Bool) → b && c ≡ true → (b ≡ true) × (c ≡ true)
+both : (b c : Bool) → b && c ≡ true → (b ≡ true) × (c ≡ true)
 both true c e = (refl, e)
 both false c e = absurd cc
 
-pub neither : (b c : Bool) → b || c ≡ false → (b ≡ false) × (c ≡ false)
+neither : (b c : Bool) → b || c ≡ false → (b ≡ false) × (c ≡ false)
 neither true c e = absurd cc
 neither false c e = (refl, e)
 
-pub none_of : (b : Bool) → not b ≡ true → b ≡ false
+none_of : (b : Bool) → not b ≡ true → b ≡ false
 none_of true e = absurd cc
 none_of false e = refl
 
 -- ---- each name once
 
 -- no name stands twice
-abbrev pub AreDistinct : Members → Type 0
+abbrev AreDistinct : Members → Type 0
 AreDistinct no_members = Unit {0}
 AreDistinct (member text d ms) = (get_member text ms ≡ None) × AreDistinct ms
 
@@ -162,7 +162,7 @@ none_above : (text : String Global) (es : List (String Global × Value)) → All
 none_above text [] above = refl
 none_above text (e ∷ es) above = less_not_equal (slice_cmp nat_cmp (string_bytes text) (string_bytes e.0)) (get_member (string_bytes text) (members_view es)) (Some (view e.1)) above.0 (none_above text es above.1)
 
-pub distinct : (es : List (String Global × Value)) → IsStrictlySortedBy string_cmp (keys_of es) → AreDistinct (members_view es)
+distinct : (es : List (String Global × Value)) → IsStrictlySortedBy string_cmp (keys_of es) → AreDistinct (members_view es)
 unfolding IsStrictlySortedBy
 distinct [] sorted = tt
 distinct (e ∷ es) sorted = (none_above e.0 es sorted.0, distinct es sorted.1)
@@ -188,13 +188,13 @@ found_case Equal false found d e = absurd cc
 found_case Greater true found d e = absurd cc
 found_case Greater false found d e = refl
 
-pub member_at : (k : Key) (text : List ℕ) (d : Data) (ms : Members) → get_member (key_text k) (member text d ms) ≡ (if bytes_eq (key_text k) text then Some d else get_member (key_text k) ms)
+member_at : (k : Key) (text : List ℕ) (d : Data) (ms : Members) → get_member (key_text k) (member text d ms) ≡ (if bytes_eq (key_text k) text then Some d else get_member (key_text k) ms)
 member_at k text d ms = found_case (slice_cmp nat_cmp (key_text k) text) (bytes_eq (key_text k) text) (get_member (key_text k) ms) d (is_eq-slice_cmp (key_text k) text)
 
-pub reached : (k : Key) (text : List ℕ) (d : Data) (ms : Members) → bytes_eq (key_text k) text ≡ true → get_member (key_text k) (member text d ms) ≡ Some d
+reached : (k : Key) (text : List ℕ) (d : Data) (ms : Members) → bytes_eq (key_text k) text ≡ true → get_member (key_text k) (member text d ms) ≡ Some d
 reached k text d ms same = member_at k text d ms ∙ rw same refl
 
-pub passed : (k : Key) (text : List ℕ) (d : Data) (ms : Members) → bytes_eq (key_text k) text ≡ false → get_member (key_text k) (member text d ms) ≡ get_member (key_text k) ms
+passed : (k : Key) (text : List ℕ) (d : Data) (ms : Members) → bytes_eq (key_text k) text ≡ false → get_member (key_text k) (member text d ms) ≡ get_member (key_text k) ms
 passed k text d ms other = member_at k text d ms ∙ rw other refl
 
 unchanged : (keys : List Key) (slots : Slots) (text : List ℕ) (d : Data) (ms : Members) → is_one_of keys text ≡ false → over keys slots (member text d ms) ≡ over keys slots ms
@@ -243,7 +243,7 @@ over_none [] slots = refl
 over_none (k ∷ keys) [] = refl
 over_none (k ∷ keys) (x ∷ slots) = ap (λ others. x ∷ others) (over_none keys slots)
 
-pub given : {A : Type 0} (o : Option ℕ) (text : List ℕ) (next : ℕ → Result A Fault) (found : A) → or_unknown o text next ≡ Ok found → (n : ℕ) × (o ≡ Some n) × (next n ≡ Ok found)
+given : {A : Type 0} (o : Option ℕ) (text : List ℕ) (next : ℕ → Result A Fault) (found : A) → or_unknown o text next ≡ Ok found → (n : ℕ) × (o ≡ Some n) × (next n ≡ Ok found)
 given None text next found e = absurd cc
 given (Some n) text next found e = (n, refl, e)
 
@@ -268,12 +268,12 @@ over_empty (k ∷ keys) ms = rw (latest_none (get_member (key_text k) ms), over_
 -- ---- unknown keys
 
 -- whether there are some
-abbrev pub unit_of : {A : Type 0} → Result A Fault → Result (Unit {0}) Fault
+abbrev unit_of : {A : Type 0} → Result A Fault → Result (Unit {0}) Fault
 unit_of (Ok x) = Ok tt
 unit_of (Err fault) = Err fault
 
 -- a key of a text has a number
-pub knows : (keys : List Key) (text : List ℕ) → is_some (key_number keys text) ≡ is_one_of keys text
+knows : (keys : List Key) (text : List ℕ) → is_some (key_number keys text) ≡ is_one_of keys text
 knows [] text = refl
 knows (k ∷ keys) text = knows_at (bytes_eq (key_text k) text) (key_number keys text) (is_one_of keys text) (knows keys text)
   where
@@ -282,7 +282,7 @@ knows (k ∷ keys) text = knows_at (bytes_eq (key_text k) text) (key_number keys
     knows_at false None one e = e
     knows_at false (Some n) one e = e
 
-pub known_case : {A : Type 0} (o : Option ℕ) (one : Bool) (text : List ℕ) (next : ℕ → Result A Fault) (others : Result (Unit {0}) Fault) → is_some o ≡ one
+known_case : {A : Type 0} (o : Option ℕ) (one : Bool) (text : List ℕ) (next : ℕ → Result A Fault) (others : Result (Unit {0}) Fault) → is_some o ≡ one
     → ((n : ℕ) → unit_of (next n) ≡ others) → unit_of (or_unknown o text next) ≡ unless_known one text others
 known_case None true text next others e is = absurd cc
 known_case None false text next others e is = refl
@@ -297,7 +297,7 @@ as_known keys slots (member text d ms) = known_case (key_number keys text) (is_o
 
 -- ---- the whole object
 
-pub is_object : (d : Data) (ms : Members) → members_in d ≡ Ok ms → d ≡ object ms
+is_object : (d : Data) (ms : Members) → members_in d ≡ Ok ms → d ≡ object ms
 unfolding members_in
 is_object Data.null ms e = absurd cc
 is_object (Data.boolean b) ms e = absurd cc

@@ -11,7 +11,7 @@ ghost use Rattle.bridge_form.specs.Form.{sole_under};
 ghost use Rattle.bridge_form.specs.Reading.{not_null, under};
 ghost use Rattle.bridge_form.specs.Given.{GivesBy};
 ghost use Rattle.bridge_form.specs.Left.{IsLeft, Opens, are_apart, one_seen, seen, slots_seen};
-ghost use Rattle.bridge_form.specs.inside.Filling.{and_if, key_number, lone_seen, slots_after, tallied};
+ghost use Rattle.bridge_form.specs.inside.Filling.{key_number, slots_after};
 
 use crate::fault::{Fault, ReadFault};
 use crate::keys::Key;
@@ -155,61 +155,29 @@ fn fill(
     Ok(slots)
 }
 
-/// Under which key alone something stands.
-#[derive(Drop)]
-enum Lone {
-    /// Under none.
-    Nothing,
-    /// Under that one, with what stands there.
-    One(Key, Value),
-    /// Under more than one.
-    More,
-}
-
-impl Lone {
-    /// With what stands under one key more; null is nothing.
-    fn and(self, key: Key, value: Value) -> Lone
-        ensures { lone_seen result ≡ and_if (lone_seen self) key (not_null (view value)) }
-    {
-        if value.is_null() {
-            return self;
-        }
-        match self {
-            Lone::Nothing => Lone::One(key, value),
-            Lone::One(_, _) | Lone::More => Lone::More,
-        }
-    }
-}
-
-/// Under which key of the form alone something stands; the fault of the first member whose key is none of these.
-fn find_lone(
-    alloc: Global,
-    form: &[Key],
-    mut members: Map<String, Value>,
-) -> Result<Lone, ReadFault>
-    ensures tallied { GivesBy lone_seen result
-        (tallied form.now (Some None) (members_view members.entries)) }
-    ensures ordered { IsStrictlySortedBy string_cmp (keys members) }
-{
-    let mut lone = Lone::Nothing;
-    for (name, value) in members.iter_mut() {
-        let Some(number) = key_number(form, name.as_str()) else {
-            return Err(ReadFault::Bad(Fault::unknown_key(alloc, name.as_str())?));
-        };
-        lone = lone.and(form[number], value.take());
-    }
-    Ok(lone)
-}
-
 /// The one key of an object under which something stands, with what stands there; the fault of a value that is no object, or of its first
 /// key that is none of these; else the wrong form, where something stands under no key or under more than one.
-#[tactic(auto, using(crate::proofs::SoleLemmas::sole_refused, crate::proofs::SoleLemmas::sole_no_object))]
+#[tactic(auto, using(crate::proofs::SoleLemmas::sole_refused))]
 pub fn sole(alloc: Global, value: Value, form: &[Key]) -> Result<(Key, Value), ReadFault>
     requires { are_apart form.now ≡ true }
     ensures { GivesBy one_seen result (sole_under form.now (view value)) }
 {
-    match find_lone(alloc, form, members(alloc, value)?)? {
-        Lone::One(key, value) => Ok((key, value)),
-        Lone::Nothing | Lone::More => Err(ReadFault::wrong_form(alloc)),
+    let mut left = Fields::of(alloc, value, form)?;
+    let mut lone = None;
+    for _number in 0..form.len() {
+        let Some((key, held)) = left.next() else {
+            continue;
+        };
+        let Some(found) = held else {
+            continue;
+        };
+        if lone.is_some() {
+            return Err(ReadFault::wrong_form(alloc));
+        }
+        lone = Some((key, found));
+    }
+    match lone {
+        Some(one) => Ok(one),
+        None => Err(ReadFault::wrong_form(alloc)),
     }
 }

@@ -10,9 +10,8 @@
 //! of its key, and stops at `colour`, which is none of them: `unknown key` at `/colour`, though null stands there. Without
 //! `colour`, `Fields::next` gives `name` with `"a"`, `longer` with the list, and `shorter` with nothing, one after the other.
 //!
-//! Of some objects one key alone may have something under it, as of a type: `{"box": "u8", "str": null}`. `sole` passes over the
-//! members once too, keeps the first under which something stands, and has `box` with `"u8"`; where there are none or more, it has the
-//! wrong form.
+//! Of some objects one key alone may have something under it, as of a type: `{"box": "u8", "str": null}`. `sole` goes through the slots
+//! of such an object, and has `box` with `"u8"`; where something stands under no key or under more than one, it has the wrong form.
 //!
 //! A `Fault` is told with a `Pointer` (RFC 6901) to its place, which grows from the inside out: what is wrong in the first entry of the list
 //! is at `/0`, and `in_member` makes `/longer/0` of that. Values are handed on by value, and null is as good as no member at all.

@@ -1,14 +1,10 @@
--- What stands under the keys of a form, as code puts it into slots, or finds the only key with something under it.
-use Rattle.std.specs.Prelude.{ℕ, suc, List, [], ◌∷◌, get_or, slice_set, Option, Some, None, option_map, Result, Ok, Err, if◌then◌else◌}
+-- What stands under the keys of a form, as code puts it into slots.
+use Rattle.std.specs.Prelude.{ℕ, suc, List, [], ◌∷◌, slice_set, Option, Some, None, option_map, Result, Ok, Err, if◌then◌else◌}
 use Rattle.std.specs.Str.{bytes_eq}
-use Rattle.serde_json.specs.Data.{Data, Members, no_members, member}
-use Rattle.serde_json.specs.View.{view}
+use Rattle.serde_json.specs.Data.{Members, no_members, member}
 use Rattle.bridge_form.specs.declared.fault.Fault.{Fault}
 use Rattle.bridge_form.specs.declared.fault.InputKind.TheVariants as kind
-use Rattle.bridge_form.specs.declared.fields.Lone.{Lone}
-use Rattle.bridge_form.specs.declared.fields.Lone.TheVariants as lone
 use Rattle.bridge_form.specs.declared.keys.Key.{Key}
-use Rattle.bridge_form.specs.declared.keys.Key.TheVariants as key
 use Rattle.bridge_form.specs.declared.pointer.Step.TheVariants as step
 use Rattle.bridge_form.specs.Keys.{key_text}
 use Rattle.bridge_form.specs.Reading.{here, within, not_null}
@@ -27,28 +23,3 @@ or_unknown None text next = Err (within (step.Member text) (here kind.UnknownKey
 abbrev pub slots_after : List Key → Slots → Members → Result Slots Fault
 slots_after keys slots no_members = Ok slots
 slots_after keys slots (member text d ms) = or_unknown (key_number keys text) text (λ n. slots_after keys (slice_set slots n (not_null d)) ms)
-
--- under which key alone something stands, with what stands there; none where something stands under more than one
-abbrev pub Tally : Type 0
-Tally = Option (Option (Key × Data))
-
--- one more
-abbrev pub and_one : Tally → Key × Data → Tally
-and_one None one = None
-and_one (Some None) one = Some (Some one)
-and_one (Some (Some other)) one = None
-
--- one more, where something stands there
-abbrev pub and_if : Tally → Key → Option Data → Tally
-and_if tally key None = tally
-and_if tally key (Some d) = and_one tally (key, d)
-
--- these members after others, up to the first whose key is none of the form
-abbrev pub tallied : List Key → Tally → Members → Result Tally Fault
-tallied keys tally no_members = Ok tally
-tallied keys tally (member text d ms) = or_unknown (key_number keys text) text (λ n. tallied keys (and_if tally (get_or keys n key.Root) (not_null d)) ms)
-
-abbrev pub lone_seen : Lone → Tally
-lone_seen lone.Nothing = Some None
-lone_seen (lone.One k v) = Some (Some (k, view v))
-lone_seen lone.More = None
