@@ -78,6 +78,10 @@ fn take(slots: &mut Vec<Option<Value>>, number: usize) -> Option<Value>
     ensures left { drop (number + 1) (slots_seen slots.new.items)
         ≡ drop (number + 1) (slots_seen slots.old.items) }
 {
+    // Most keys are absent: an empty slot isn't copied.
+    if slots[number].is_none() {
+        return None;
+    }
     slots[number].take()
 }
 
