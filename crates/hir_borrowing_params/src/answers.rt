@@ -24,22 +24,6 @@ fn passes_under(map: &BorrowMap<'_>, key: Lifetime, candidate: &EdgeCandidate<'_
     }
 }
 
-/// Whether the edge is there under a key.
-pub(crate) fn any_under(
-    map: &BorrowMap<'_>,
-    keys: &[Lifetime],
-    candidate: &EdgeCandidate<'_, '_>,
-) -> bool
-    ensures { result ≡ list_any (λ t. passes_under map.now t candidate.now) keys.now }
-{
-    for key in keys {
-        if passes_under(map, *key, candidate) {
-            return true;
-        }
-    }
-    false
-}
-
 /// Adds the key, where the edge is there under it.
 fn add_key(
     set: &mut BTreeSet<Lifetime>,

@@ -2,27 +2,20 @@
 
 ghost use Rattle.std.specs.Prelude.{◌≡◌, IfOk, OnErr, OnOk};
 ghost use Rattle.bridge_grid.specs.Faults.{type_faults};
-ghost use Rattle.bridge_grid.specs.Items.{receiver_faults};
 ghost use Rattle.bridge_grid.specs.Params.{callback_param_faults, param_faults};
 ghost use Rattle.bridge_grid.specs.Returns.{returned_faults};
 ghost use Rattle.hir_form.specs.Judging.{IsJudged, with_faults};
-ghost use Rattle.hir_form.specs.ParamForms.{callback_return_form, field_form, method_return_form, out_type_form, param_form};
-ghost use Rattle.hir_form.specs.ReceiverForms.{receiver_form};
+ghost use Rattle.hir_form.specs.ParamForms.{callback_return_form, field_form, out_type_form, param_form};
 
-use crate::accepting::{accept_param, accept_receiver, accept_return, accept_type};
-use bridge_decl::{Mutability, NoMemory, WriteType};
-use bridge_grid::{
-    Part, tell, test_callback_param, test_param, test_receiver, test_return, test_type,
-};
+use crate::accepting::{accept_callback_return, accept_param, accept_type};
+use bridge_decl::NoMemory;
+use bridge_grid::{Part, tell, test_callback_param, test_param, test_return, test_type};
 use bridge_rules::{Catalog, Position};
 use hir_backends::BackendAttrSupport;
 use hir_config::LoweringConfig;
-use hir_life::{Lifetime, MaybeStatic};
-use hir_number::{NumberedType, Target};
+use hir_number::NumberedType;
 use hir_reports::ErrorStore;
-use hir_types::{
-    CallbackReturn, Everywhere, HirType, InputOnly, OutType, OutputOnly, ReturnType, SelfType,
-};
+use hir_types::{CallbackReturn, Everywhere, HirType, InputOnly, OutType, OutputOnly, ReturnType};
 use std::alloc::Global;
 
 /// The type of a field of a struct. None where something is wrong with it: then each fault is
@@ -130,52 +123,7 @@ pub fn judge_callback_return(
     ensures err { OnErr result (store.new ≡ store.old) }
 {
     let faults = test_return(alloc, support, catalog, Position::CallbackReturn, ty)?;
-    let made = accept_return::<CallbackReturn>(alloc, catalog, None, ty, &faults)?;
-    tell(alloc, store, faults.as_slice())?;
-    Ok(made)
-}
-
-/// What a method or a function returns, with what its trailing writer takes, where it has one; else
-/// as [`judge_field`].
-pub fn judge_return(
-    alloc: Global,
-    store: &mut ErrorStore,
-    support: &BackendAttrSupport,
-    catalog: &Catalog,
-    written: Option<WriteType>,
-    ty: &NumberedType,
-) -> Result<Option<ReturnType<OutputOnly>>, NoMemory>
-    ensures told { OnOk result (store.new ≡ with_faults store.old
-        (returned_faults support.now catalog.now Position.Return ty.now)) }
-    ensures form { IfOk result (IsJudged
-        (returned_faults support.now catalog.now Position.Return ty.now)
-        (method_return_form catalog.now written ty.now)) }
-    ensures err { OnErr result (store.new ≡ store.old) }
-{
-    let faults = test_return(alloc, support, catalog, Position::Return, ty)?;
-    let made = accept_return::<OutputOnly>(alloc, catalog, written, ty, &faults)?;
-    tell(alloc, store, faults.as_slice())?;
-    Ok(made)
-}
-
-/// A receiver: `self` of a type, or a reference to it; else as [`judge_field`].
-pub fn judge_receiver(
-    alloc: Global,
-    store: &mut ErrorStore,
-    support: &BackendAttrSupport,
-    catalog: &Catalog,
-    borrow: &Option<(MaybeStatic<Lifetime>, Mutability)>,
-    target: &Target,
-) -> Result<Option<SelfType>, NoMemory>
-    ensures told { OnOk result (store.new ≡ with_faults store.old
-        (receiver_faults support.now catalog.now borrow.now target.now.place)) }
-    ensures form { IfOk result (IsJudged
-        (receiver_faults support.now catalog.now borrow.now target.now.place)
-        (receiver_form catalog.now borrow.now target.now)) }
-    ensures err { OnErr result (store.new ≡ store.old) }
-{
-    let faults = test_receiver(alloc, support, catalog, *borrow, target.place)?;
-    let made = accept_receiver(alloc, catalog, *borrow, target, &faults)?;
+    let made = accept_callback_return(alloc, catalog, ty, &faults)?;
     tell(alloc, store, faults.as_slice())?;
     Ok(made)
 }

@@ -40,8 +40,8 @@
 //!
 //! Lowering knows no rule. Each call first has `bridge_grid` tell what the type breaks. Where that is something, it is reported and nothing
 //! is made; where it is nothing, the type has a form, which is proved of each row of the table, and that form is the answer: [`judge_field`],
-//! [`judge_out_field`], [`judge_param`], [`judge_callback_param`], [`judge_return`], [`judge_callback_return`] and [`judge_receiver`].
-//! [`judge_signature`] does the same with all types of a method or a function at once.
+//! [`judge_out_field`], [`judge_param`], [`judge_callback_param`] and [`judge_callback_return`].
+//! [`judge_signature`] does the same with all types of a method or a function at once: receiver, parameters and return.
 //!
 //! Upstream, the module `hir::lowering` of the crate `diplomat_core`, tests and lowers in one walk.
 #![tactic(auto)]
@@ -60,6 +60,5 @@ mod types;
 
 pub use judging::{
     judge_callback_param, judge_callback_return, judge_field, judge_out_field, judge_param,
-    judge_receiver, judge_return,
 };
 pub use signatures::{LoweredSignature, judge_signature};

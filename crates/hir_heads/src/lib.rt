@@ -20,7 +20,7 @@
 //! it holds, also where memory ends.
 //!
 //! In the example the lifetime `'fn` has a name that is no identifier, so that is told and there is no environment
-//! ([`lower_lifetimes`]), while the name `Line` is made ([`lower_name`]). The marks start from those of the module, as far as it hands
+//! ([`lower_lifetimes`]), while the name `Line` is made ([`lower_ident`]). The marks start from those of the module, as far as it hands
 //! them on ([`lower_notes`]).
 //!
 //! # Which names are identifiers
@@ -38,5 +38,5 @@ mod notes;
 
 pub use laws::identifiers_are_tested;
 pub use lifetimes::{lower_lifetimes, tell_lifetimes};
-pub use names::{lower_ident, lower_name};
+pub use names::lower_ident;
 pub use notes::{Notes, lower_notes};

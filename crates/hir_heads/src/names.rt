@@ -1,13 +1,12 @@
 //! Names as identifiers.
 
-ghost use Rattle.std.specs.Prelude.{◌≡◌, IfOk, OnOk, option_map};
+ghost use Rattle.std.specs.Prelude.{◌≡◌, IfOk, OnOk};
 ghost use Rattle.hir_attrs.specs.Reading.{about};
 ghost use Rattle.hir_heads.specs.Names.{name_errors};
 ghost use Rattle.hir_heads.specs.Told.{MadeUnlessTold};
 ghost use Rattle.hir_reports.specs.Store.{Held, Keeps, added, gained};
 
 use bridge_decl::{IdentBuf, IdentFault, NoMemory, Text};
-use hir_ids::Ident;
 use hir_reports::{ErrorStore, LoweringError, Rule};
 use std::alloc::{AllocError, Global};
 
@@ -37,22 +36,5 @@ pub fn lower_ident(
             Ok(None)
         }
         Err(IdentFault::NoMemory) => Err(AllocError),
-    }
-}
-
-/// The name of a definition or of a method; else as [`lower_ident`].
-pub fn lower_name(
-    alloc: Global,
-    name: &Text,
-    errors: &mut ErrorStore<'_>,
-) -> Result<Option<Ident>, NoMemory>
-    ensures told { OnOk result (errors.new ≡ added errors.old (name_errors name.now)) }
-    ensures made { IfOk result
-        (λ made. MadeUnlessTold (name_errors name.now) name.now (option_map (λ n. n.0) made)) }
-    ensures kept { (earlier : Held) → Keeps earlier errors.old → Keeps earlier errors.new }
-{
-    match lower_ident(alloc, name, errors)? {
-        Some(ident) => Ok(Some(Ident::new(ident))),
-        None => Ok(None),
     }
 }

@@ -61,13 +61,14 @@ use Rattle.hir_lowering.specs.Kinds.{ItemMaking, enum_made, function_made, opaqu
 use Rattle.hir_lowering.specs.Lowered.{AreAllLowered}
 use Rattle.hir_lowering.specs.Placing.{each_form, form_at}
 use Rattle.hir_lowering.specs.Walks.{interface_of}
-use Rattle.hir_lower.specs.Acceptance.{AnswersAll, AreAccepted, HoldsByCatalog}
+use Rattle.hir_lower.specs.Acceptance.{AreAccepted, HoldsByCatalog}
 use Rattle.hir_lower.specs.Contexts.{ListsAllItems, ListsItems, StandForItems}
 use Rattle.hir_lower.specs.Placing.{path_of_place}
 use Rattle.hir_lower.specs.inside.Parts.{AreParts, StandAtPlaces}
 use Rattle.hir_lower.specs.declared.fault.LowerFault.{LowerFault}
 use Rattle.hir_lower.specs.declared.fault.LowerFault.TheVariants as fault
 use Rattle.hir_lower.specs.inside.Contexts.{AnswersContext, IsContextOf, UsedAs}
+use Rattle.hir_lower.specs.inside.Telling.{AnswersAll}
 use Rattle.hir_lower.proofs.ItemLemmas.{each_counted, each_good, enum_fits, function_fits, opaque_counted, opaque_fits, out_struct_counted, out_struct_fits, struct_counted, struct_fits, trait_counted, trait_fits}
 use Rattle.hir_lower.proofs.NestingLemmas.{all_length}
 use Rattle.hir_lower.proofs.UseLemmas.{AreUseLaws, EachLoweredFits, notes_fit, used_all, used_long, used_same}

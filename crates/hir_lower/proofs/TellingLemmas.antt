@@ -15,11 +15,11 @@ use Rattle.hir_lowering.specs.Lowered.{AreAllLowered, AreLowered, item_reports_i
 use Rattle.hir_lowering.specs.Walks.{LowersTo, interface_of}
 use Rattle.hir_modules.specs.ModuleMarks.{all_module_reports}
 use Rattle.hir_number.proofs.ElisionLemmas.{none_of}
-use Rattle.hir_lower.specs.Acceptance.{AnswersAll, AreAccepted, HoldsByCatalog}
+use Rattle.hir_lower.specs.Acceptance.{AreAccepted, HoldsByCatalog}
 use Rattle.hir_lower.specs.Refusals.{IsRefusal, TellsNestingOf}
 use Rattle.hir_lower.specs.declared.fault.LowerFault.{LowerFault}
 use Rattle.hir_lower.specs.declared.fault.LowerFault.TheVariants as fault
-use Rattle.hir_lower.specs.inside.Telling.{GivesUnlessTold, IsWholeTelling, TellsNestingAfter}
+use Rattle.hir_lower.specs.inside.Telling.{AnswersAll, GivesUnlessTold, IsWholeTelling, TellsNestingAfter}
 
 some_there : {A : Type 0} (x : A) (xs : List A) → x ∷ xs ≢ []
 some_there x xs = λ none. cc

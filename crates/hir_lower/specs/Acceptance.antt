@@ -1,5 +1,5 @@
--- What declarations come to: their definitions, or all that is wrong.
-use Rattle.std.specs.Prelude.{◌≡◌, ⊤, ℕ, List, [], Result, Ok, Err}
+-- When declarations are accepted, and with which definitions.
+use Rattle.std.specs.Prelude.{◌≡◌, ℕ, List, []}
 use Rattle.bridge_decl.specs.declared.modules.Module.{Module}
 use Rattle.bridge_order.specs.declared.catalog.Catalog.{Catalog}
 use Rattle.bridge_places.specs.Entries.{IsCatalog}
@@ -12,9 +12,7 @@ use Rattle.hir_usage_notes.specs.declared.definitions.LoweredDefinitions.{Lowere
 use Rattle.hir_lowering.specs.Interface.{Interface}
 use Rattle.hir_lowering.specs.Lowered.{AreAllLowered, lowering_reports}
 use Rattle.hir_lowering.specs.Walks.{interface_of}
-use Rattle.hir_lower.specs.Refusals.{IsRefusal, TellsNestingOf}
-use Rattle.hir_lower.specs.declared.fault.LowerFault.{LowerFault}
-use Rattle.hir_lower.specs.declared.fault.LowerFault.TheVariants as fault
+use Rattle.hir_lower.specs.Refusals.{TellsNestingOf}
 
 -- something holds of declarations, by a catalog of their modules
 pub record HoldsByCatalog (modules : List Module) (backend : Backend) (config : LoweringConfig) (names : ℕ → Naming) (P : Interface → Type 0) : Type 0 where
@@ -28,9 +26,3 @@ pub record AreAccepted (it : Interface) (d : LoweredDefinitions) : Type 0 where
   pub all : AreAllLowered it d
   pub quiet : TellsNestingOf it.modules d []
   pub nested : AllNestWell (lowered_containment d)
-
--- the definitions of all items, or all that is wrong, or want of memory
-abbrev pub AnswersAll : List Module → Backend → LoweringConfig → (ℕ → Naming) → Result LoweredDefinitions LowerFault → Type 0
-AnswersAll modules backend config names (Ok d) = HoldsByCatalog modules backend config names (λ it. AreAccepted it d)
-AnswersAll modules backend config names (Err (fault.Refused told)) = HoldsByCatalog modules backend config names (λ it. IsRefusal it told.items)
-AnswersAll modules backend config names (Err fault.NoMemory) = ⊤

@@ -16,7 +16,7 @@ ghost use Rattle.hir_lower.specs.declared.fault.LowerFault.{LowerFault};
 use crate::fault::LowerFault;
 use crate::laws::what_is_accepted_fits;
 use crate::placing::parts_of;
-use crate::refusing::lower_or_refuse_in;
+use crate::refusing::lower_or_refuse;
 use bridge_ast::Env;
 use bridge_places::ItemOrder;
 use hir_backends::AttributeValidator;
@@ -86,7 +86,7 @@ fn context_in_order<V: AttributeValidator>(
 {
     what_is_accepted_fits();
     every_path_has_a_meaning();
-    match lower_or_refuse_in(alloc, env, order, config, validator) {
+    match lower_or_refuse(alloc, env, order, config, validator) {
         Ok(defs) => used_context(alloc, env, order, defs),
         Err(fault) => Err(fault),
     }

@@ -17,8 +17,7 @@
 //! | modules, then items kind by kind | `Kex names nothing`, at `ui::Page::print` |
 //! | how structs nest | `Line` contains itself, at `data::Line` |
 //!
-//! [`lower_or_refuse`] answers with the definitions before uses are noted. That all of them fit together is a law,
-//! [`what_is_accepted_fits`]: a function whose contract says so.
+//! That all definitions fit together is a law, [`what_is_accepted_fits`]: a function whose contract says so.
 //!
 //! As in the crate `diplomat_core`, module `hir::type_context`; the rules on nesting are this repository's own.
 #![tactic(auto)]
@@ -34,4 +33,3 @@ pub use from_env::FromEnv;
 pub use hir_config::LoweringConfig;
 pub use hir_context::TypeContext;
 pub use laws::what_is_accepted_fits;
-pub use refusing::lower_or_refuse;

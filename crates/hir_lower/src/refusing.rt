@@ -5,8 +5,7 @@ ghost use Rattle.bridge_ast.specs.Sound.{AreSound};
 ghost use Rattle.bridge_places.specs.Entries.{IsCatalog};
 ghost use Rattle.bridge_places.specs.Places.{of_kind, places_of};
 ghost use Rattle.bridge_places.specs.declared.kinds.Kind.{Kind};
-ghost use Rattle.hir_lower.specs.Acceptance.{AnswersAll};
-ghost use Rattle.hir_lower.specs.inside.Telling.{GivesUnlessTold, TellsAll, TellsNestingAfter};
+ghost use Rattle.hir_lower.specs.inside.Telling.{AnswersAll, GivesUnlessTold, TellsAll, TellsNestingAfter};
 ghost use Rattle.hir_lowering.specs.Interface.{AreNamed};
 ghost use Rattle.hir_number.specs.Naming.{Naming};
 
@@ -100,7 +99,7 @@ fn unless_told<T: Drop>(errors: &mut ErrorStore<'_>, value: T) -> Result<T, Lowe
 }
 
 /// All declarations, whose items stand in that order: the definitions of all, or all that is wrong.
-pub(crate) fn lower_or_refuse_in<V: AttributeValidator>(
+pub(crate) fn lower_or_refuse<V: AttributeValidator>(
     alloc: Global,
     env: &Env,
     order: &ItemOrder,
@@ -118,19 +117,4 @@ pub(crate) fn lower_or_refuse_in<V: AttributeValidator>(
     what_is_fine_is_all_made();
     a_listed_place_has_its_kind();
     unless_told(&mut errors, defs)
-}
-
-/// All declarations: the definitions of all their items, which nest well, or all that is wrong in
-/// them. `NoMemory` where there is no memory.
-pub fn lower_or_refuse<V: AttributeValidator>(
-    alloc: Global,
-    env: &Env,
-    config: LoweringConfig,
-    validator: &V,
-) -> Result<LoweredDefinitions, LowerFault>
-    ensures { (names : ℕ → Naming) → AreNamed env.now names → AnswersAll env.now
-        (V.meaning validator.now) config names result }
-{
-    let order = ItemOrder::of(alloc, env.modules())?;
-    lower_or_refuse_in(alloc, env, &order, config, validator)
 }

@@ -18,7 +18,7 @@
 //! | traits | | |
 //! | functions | `shorter` | |
 //!
-//! [`lower_declarations`] tells each at its place and goes on: nothing ends the walk but want of memory. `Page` isn't made, since something is
+//! [`lower_in_order`] tells each at its place and goes on: nothing ends the walk but want of memory. `Page` isn't made, since something is
 //! told of it, and all others are. Where nothing is told at all, every item is made, and an item's place among the definitions of its kind
 //! is the id by which paths name it.
 //!
@@ -36,4 +36,4 @@ mod walk;
 pub use kinds::{DefinitionKind, Enums, Functions, Opaques, OutStructs, Structs, Traits};
 pub use laws::what_is_fine_is_all_made;
 pub use nesting::tell_nesting;
-pub use walk::{lower_declarations, lower_in_order};
+pub use walk::lower_in_order;

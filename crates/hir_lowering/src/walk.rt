@@ -120,19 +120,3 @@ pub fn lower_in_order<'tree, V: AttributeValidator>(
     };
     lower_items(env, &lent, marks.as_slice(), &order.places, errors)
 }
-
-/// All declarations, by an order of their items that is made here.
-pub fn lower_declarations<'tree, V: AttributeValidator>(
-    alloc: Global,
-    env: &'tree Env,
-    config: LoweringConfig,
-    validator: &V,
-    errors: &mut ErrorStore<'tree>,
-) -> Result<LoweredDefinitions, NoMemory>
-    ensures walked { (names : ℕ → Naming) → AreNamed env.now names → Walks env.now
-        (V.meaning validator.now) config names errors.old errors.new result }
-    ensures kept { HoldsStill errors.old errors.new }
-{
-    let order = ItemOrder::of(alloc, env.modules())?;
-    lower_in_order(alloc, env, &order, config, validator, errors)
-}

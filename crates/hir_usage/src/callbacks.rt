@@ -38,15 +38,6 @@ pub(crate) fn add_callback<'a>(
     add_return(uses, &callback.output)
 }
 
-/// How a callback, or a method of a trait, uses definitions: what it takes, and what it returns.
-pub fn callback_usages(alloc: Global, callback: &Callback) -> Result<Vec<Use<'_>>, NoMemory>
-    ensures { IfOk result (λ uses. meant uses ≡ callback_usages callback.now) }
-{
-    let mut uses = Vec::new(alloc);
-    add_callback(&mut uses, callback)?;
-    Ok(uses)
-}
-
 /// Adds how parameters use definitions.
 fn add_params<'a>(uses: &mut Vec<Use<'a>>, params: &'a [Param]) -> Result<(), NoMemory>
     ensures { OnOk result (meant uses.new

@@ -44,8 +44,7 @@
 //! borrowed, as in `pages`, and one that goes out where it is owned, as what `open` returns. A
 //! borrowed opaque that goes out and may be absent is in none.
 //!
-//! [`type_usages`], [`return_usages`], [`callback_usages`], [`method_usages`], [`field_usages`] and
-//! [`trait_usages`] are the parts. In these lists results are lent and never copied, and a list
+//! [`method_usages`], [`field_usages`] and [`trait_usages`] have the lists. In these results are lent and never copied, and a list
 //! takes one step and one place a use.
 //!
 //! # Tables
@@ -72,10 +71,8 @@ mod tables;
 mod types;
 mod uses;
 
-pub use callbacks::{callback_usages, method_usages};
+pub use callbacks::method_usages;
 pub use definitions::{field_usages, trait_usages};
 pub use positions::{PositionUses, ReturnPosition};
-pub use returns::return_usages;
 pub use tables::UseTable;
-pub use types::type_usages;
 pub use uses::{LentId, Use};

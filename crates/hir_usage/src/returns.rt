@@ -1,6 +1,6 @@
 //! How returns use definitions.
 
-ghost use Rattle.std.specs.Prelude.{◌≡◌, ◌++◌, IfOk, OnOk};
+ghost use Rattle.std.specs.Prelude.{◌≡◌, ◌++◌, OnOk};
 ghost use Rattle.hir_types.specs.Returns.{type_in};
 ghost use Rattle.hir_mentions.specs.Mentions.{where_any};
 ghost use Rattle.hir_usage.specs.Returns.{result_usages, return_usages};
@@ -12,7 +12,6 @@ use crate::types::{add_type, definition_of};
 use crate::uses::Use;
 use bridge_decl::NoMemory;
 use hir_types::{HirType, ReturnType, SuccessType};
-use std::alloc::Global;
 
 /// Adds how the type of a success uses definitions, where it has one.
 fn add_success<'a, P: PositionUses>(
@@ -100,19 +99,4 @@ pub(crate) fn add_return<'a, P: ReturnPosition>(
             add_results(uses, ok, err)
         }
     }
-}
-
-/// How a return uses definitions.
-pub fn return_usages<P: ReturnPosition>(
-    alloc: Global,
-    output: &ReturnType<P>,
-) -> Result<Vec<Use<'_>>, NoMemory>
-    ensures { IfOk result (λ uses. meant uses ≡ return_usages
-        (type_usages P.IN_OUT_STATUS P.OpaqueOwnership.borrow_of P.StructPath.id_of P.of_callback)
-        (optioned_usages P.IN_OUT_STATUS P.OpaqueOwnership.borrow_of P.StructPath.id_of
-        P.of_callback) P.StructPath.id_of P.result_of output.now) }
-{
-    let mut uses = Vec::new(alloc);
-    add_return(&mut uses, output)?;
-    Ok(uses)
 }

@@ -1,9 +1,9 @@
 //! How types use definitions.
 
-ghost use Rattle.std.specs.Prelude.{◌≡◌, ◌++◌, IfOk, OnOk, option_map};
+ghost use Rattle.std.specs.Prelude.{◌≡◌, ◌++◌, OnOk, option_map};
 ghost use Rattle.hir_types.specs.Types.{type_id};
 ghost use Rattle.hir_usage.specs.Seen.{meant, id_lent};
-ghost use Rattle.hir_usage.specs.Types.{opaque_usages, slice_usages, type_usages, uses_within};
+ghost use Rattle.hir_usage.specs.Types.{opaque_usages, slice_usages, uses_within};
 ghost use Rattle.hir_usage.specs.Uses.{is_optioned, optioned_where};
 
 use crate::positions::PositionUses;
@@ -11,7 +11,6 @@ use crate::uses::{LentId, Use};
 use bridge_decl::NoMemory;
 use hir_ids::{InputOrOutput, OpaqueOwner, Optional};
 use hir_types::{HirType, OpaquePath, Slice};
-use std::alloc::Global;
 
 /// Whether an opaque is in an option by itself: it may be absent, and it is borrowed where it
 /// comes in, or owned where it only goes out.
@@ -107,17 +106,4 @@ pub(crate) fn definition_of<P: PositionUses>(ty: &HirType<P>) -> Option<LentId<'
         HirType::Enum(path) => Some(LentId::Enum(&path.tcx_id)),
         _ => None,
     }
-}
-
-/// How a type at a position uses definitions.
-pub fn type_usages<P: PositionUses>(
-    alloc: Global,
-    ty: &HirType<P>,
-) -> Result<Vec<Use<'_>>, NoMemory>
-    ensures { IfOk result (λ uses. meant uses ≡ type_usages P.IN_OUT_STATUS
-        P.OpaqueOwnership.borrow_of P.StructPath.id_of P.of_callback ty.now) }
-{
-    let mut uses = Vec::new(alloc);
-    add_type(&mut uses, ty, false)?;
-    Ok(uses)
 }

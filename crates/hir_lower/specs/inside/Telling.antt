@@ -8,8 +8,8 @@ use Rattle.hir_reports.specs.declared.report.LoweringReport.{LoweringReport}
 use Rattle.hir_usage_notes.specs.declared.definitions.LoweredDefinitions.{LoweredDefinitions}
 use Rattle.hir_lowering.specs.Interface.{Interface}
 use Rattle.hir_lowering.specs.Lowered.{AreLowered, lowering_reports}
-use Rattle.hir_lower.specs.Acceptance.{HoldsByCatalog}
-use Rattle.hir_lower.specs.Refusals.{TellsNestingOf}
+use Rattle.hir_lower.specs.Acceptance.{AreAccepted, HoldsByCatalog}
+use Rattle.hir_lower.specs.Refusals.{IsRefusal, TellsNestingOf}
 use Rattle.hir_lower.specs.declared.fault.LowerFault.{LowerFault}
 use Rattle.hir_lower.specs.declared.fault.LowerFault.TheVariants as fault
 
@@ -23,6 +23,12 @@ pub data IsWholeTelling (it : Interface) (d : LoweredDefinitions) (told : List L
 abbrev pub TellsAll : {E : Type 0} → List Module → Backend → LoweringConfig → (ℕ → Naming) → List LoweringReport → Result LoweredDefinitions E → Type 0
 TellsAll modules backend config names told (Ok d) = HoldsByCatalog modules backend config names (λ it. IsWholeTelling it d told)
 TellsAll modules backend config names told (Err e) = ⊤
+
+-- the definitions of all items, or all that is wrong, or want of memory
+abbrev pub AnswersAll : List Module → Backend → LoweringConfig → (ℕ → Naming) → Result LoweredDefinitions LowerFault → Type 0
+AnswersAll modules backend config names (Ok d) = HoldsByCatalog modules backend config names (λ it. AreAccepted it d)
+AnswersAll modules backend config names (Err (fault.Refused told)) = HoldsByCatalog modules backend config names (λ it. IsRefusal it told.items)
+AnswersAll modules backend config names (Err fault.NoMemory) = ⊤
 
 -- a value where nothing is told, and else what is
 abbrev pub GivesUnlessTold : {T : Type 0} → List LoweringReport → T → Result T LowerFault → Type 0

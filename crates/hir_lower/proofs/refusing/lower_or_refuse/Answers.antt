@@ -1,6 +1,6 @@
 use Rattle.hir_lower.proofs.NestingLemmas.{nesting_untold}
 use Rattle.hir_lower.proofs.TellingLemmas.{answered}
-use Rattle.hir_lower.proofs.refusing.lower_or_refuse_in.Goals as goal
+use Rattle.hir_lower.proofs.refusing.lower_or_refuse.Goals as goal
 
 pub returns : goal.returns
 returns g c =
