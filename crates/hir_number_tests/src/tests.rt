@@ -11,6 +11,7 @@ mod methods;
 mod notation;
 mod others;
 mod rendered;
+mod slow;
 
 use answers::{Call, answer};
 use bridge_decl::NoMemory;

@@ -1,4 +1,7 @@
-use bridge_decl::{Boxed, DiplomatBackendAttrCfg, DocBlock, Items, NoMemory, Text};
+use super::links::link_to;
+use bridge_decl::{
+    Boxed, DiplomatBackendAttrCfg, DocBlock, DocType, Items, NoMemory, RustLink, Text,
+};
 use hir_backends::BasicAttributeValidator;
 use hir_docs::Docs;
 use hir_reports::{ErrorStore, LoweringReport, Rule};
@@ -103,5 +106,34 @@ fn blocks_are_joined(rt: HostRuntime) -> Result<(), NoMemory> {
     for row in &ROWS {
         assert!(rt; are_joined(rt.alloc(), &backend, row)?);
     }
+    Ok(())
+}
+
+// Documents of a line and a link to `url::Url`.
+fn linked(alloc: Global) -> Result<Docs, NoMemory> {
+    let mut links = Items::new(alloc);
+    links.push(link_to(alloc, &["url", "Url"], DocType::Struct)?)?;
+    Ok(Docs::new(Text::new(alloc, "a")?, links))
+}
+
+fn leads_to(link: &RustLink, name: &str) -> bool {
+    match link.path.as_slice().get(1) {
+        Some(last) => last.as_str() == name && link.path.len() == 2,
+        None => false,
+    }
+}
+
+fn are_linked(docs: &Docs) -> bool {
+    match docs.rust_links().get(0) {
+        Some(link) => docs.lines() == "a" && leads_to(link, "Url"),
+        None => false,
+    }
+}
+
+#[test]
+fn documents_are_copied(rt: HostRuntime) -> Result<(), NoMemory> {
+    let docs = linked(rt.alloc())?.try_clone(rt.alloc())?;
+    assert!(rt; are_linked(&docs));
+    drop(docs);
     Ok(())
 }

@@ -3,7 +3,7 @@ use hir_docs::{DocsUrlGenerator, LinkFault};
 use std::alloc::Global;
 use std::collections::BTreeMap;
 
-fn link_to(alloc: Global, path: &[&str], typ: DocType) -> Result<RustLink, NoMemory> {
+pub fn link_to(alloc: Global, path: &[&str], typ: DocType) -> Result<RustLink, NoMemory> {
     let mut segments = Items::new(alloc);
     for segment in path {
         segments.push(Text::new(alloc, segment)?)?;

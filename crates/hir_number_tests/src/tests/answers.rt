@@ -3,7 +3,7 @@
 use super::declared::{OWN, environment};
 use super::found::{function_in, method_in, struct_in, trait_method_in};
 use super::made::{function, with_fields, with_method, with_trait_method};
-use super::rendered;
+use super::{rendered, slow};
 use bridge_ast::{Env, EnvFault, ItemPlace};
 use bridge_decl::{Item, NoMemory};
 use hir_number::{
@@ -19,7 +19,7 @@ const OWNER: ItemPlace = ItemPlace {
 };
 
 /// What is said where a row declares nothing that could be asked for.
-fn put_nothing(text: &mut String) -> Result<(), NoMemory> {
+pub fn put_nothing(text: &mut String) -> Result<(), NoMemory> {
     text.push_str("nothing is declared")
 }
 
@@ -91,7 +91,7 @@ fn test_the_fields(alloc: Global, env: &Env, text: &mut String) -> Result<(), No
     }
 }
 
-/// A call of `hir_number`.
+/// A call of `hir_number`, or of `hir_number_slow`.
 #[derive(Clone, Copy)]
 pub enum Call {
     NumberMethod,
@@ -102,15 +102,49 @@ pub enum Call {
     TestFunction,
     TestTraitMethod,
     TestFields,
+    SlowMethod,
+    SlowFunction,
+    SlowTraitMethod,
+    SlowFields,
+    OccurrencesInMethod,
+    OccurrencesInFunction,
+    OccurrencesInTraitMethod,
+}
+
+/// What a row declares for a call.
+pub enum RowKind {
+    Method,
+    Function,
+    TraitMethod,
+    Fields,
+}
+
+impl Call {
+    /// What a row declares for the call.
+    pub fn kind(self) -> RowKind {
+        match self {
+            Call::NumberMethod | Call::TestMethod | Call::SlowMethod | Call::OccurrencesInMethod =>
+                RowKind::Method,
+            Call::NumberFunction
+            | Call::TestFunction
+            | Call::SlowFunction
+            | Call::OccurrencesInFunction => RowKind::Function,
+            Call::NumberTraitMethod
+            | Call::TestTraitMethod
+            | Call::SlowTraitMethod
+            | Call::OccurrencesInTraitMethod => RowKind::TraitMethod,
+            Call::NumberFields | Call::TestFields | Call::SlowFields => RowKind::Fields,
+        }
+    }
 }
 
 /// The item that a row declares for the call.
 fn declared(alloc: Global, call: Call, row: &str) -> Result<Item, NoMemory> {
-    match call {
-        Call::NumberMethod | Call::TestMethod => with_method(alloc, row),
-        Call::NumberFunction | Call::TestFunction => function(alloc, row),
-        Call::NumberTraitMethod | Call::TestTraitMethod => with_trait_method(alloc, row),
-        Call::NumberFields | Call::TestFields => with_fields(alloc, row),
+    match call.kind() {
+        RowKind::Method => with_method(alloc, row),
+        RowKind::Function => function(alloc, row),
+        RowKind::TraitMethod => with_trait_method(alloc, row),
+        RowKind::Fields => with_fields(alloc, row),
     }
 }
 
@@ -124,6 +158,13 @@ fn put_answer(alloc: Global, call: Call, env: &Env, text: &mut String) -> Result
         Call::TestFunction => test_the_function(alloc, env, text),
         Call::TestTraitMethod => test_the_trait_method(alloc, env, text),
         Call::TestFields => test_the_fields(alloc, env, text),
+        Call::SlowMethod => slow::number_the_method(alloc, env, text),
+        Call::SlowFunction => slow::number_the_function(alloc, env, text),
+        Call::SlowTraitMethod => slow::number_the_trait_method(alloc, env, text),
+        Call::SlowFields => slow::number_the_fields(alloc, env, text),
+        Call::OccurrencesInMethod => slow::occurrences_in_the_method(alloc, env, text),
+        Call::OccurrencesInFunction => slow::occurrences_in_the_function(alloc, env, text),
+        Call::OccurrencesInTraitMethod => slow::occurrences_in_the_trait_method(alloc, env, text),
     }
 }
 

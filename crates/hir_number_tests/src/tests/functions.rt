@@ -6,7 +6,7 @@ use super::compare;
 use bridge_decl::NoMemory;
 
 /// What a return borrows from.
-const BORROWS: [(&str, &str); 21] = [
+pub const BORROWS: [(&str, &str); 21] = [
     ("'a 'b:'a | &'a O ; &'b O | &'a O", "&0 O; &1 O | &0 O | 2"),
     ("'a 'b:'a | &'a O ; &'b O | &'b O", "&0 O; &1 O | &1 O | 2"),
     ("'a | &'a O ; &'a O | & O", "ElisionAmbiguous"),
@@ -37,7 +37,7 @@ const BORROWS: [(&str, &str); 21] = [
 ];
 
 /// What stands in what.
-const LAYERS: [(&str, &str); 14] = [
+pub const LAYERS: [(&str, &str); 14] = [
     ("'a | B<'a> | ", "B<0,1> | | 2"),
     (" | Option B | ", "Option B<0,1> | | 2"),
     (
@@ -61,7 +61,7 @@ const LAYERS: [(&str, &str); 14] = [
 ];
 
 /// Slices, whose borrow comes before their element.
-const SLICES: [(&str, &str); 11] = [
+pub const SLICES: [(&str, &str); 11] = [
     (" | []& u8 | []& u8", "[]&0 u8 | []&0 u8 | 1"),
     (" | []& & O | ", "[]&0 &1 O | | 2"),
     (" | []& & A ; & O | ", "[]&0 &1 A<2>; &3 O | | 4"),
@@ -82,7 +82,7 @@ const SLICES: [(&str, &str); 11] = [
 ];
 
 /// Callbacks, whose parameters come before their return; nothing in them is elided.
-const CALLBACKS: [(&str, &str); 11] = [
+pub const CALLBACKS: [(&str, &str); 11] = [
     (" | Fn1 & O & O | ", "Fn1 &0 O &1 O | | 2"),
     (
         " | Fn2 & O & A & O ; & O | ",
@@ -103,15 +103,17 @@ const CALLBACKS: [(&str, &str); 11] = [
 ];
 
 /// What the tests would have told first.
-const FAULTY: [(&str, &str); 7] = [
+pub const FAULTY: [(&str, &str); 6] = [
     (" | Q | ", "UnresolvedPath"),
     (" | & O | & Q", "UnresolvedPath"),
     (" | & A<'static,'static> | ", "LifetimeArity"),
     (" | impl:O | ", "UnresolvedPath"),
     ("'a | &'b O | ", "LifetimeUnknown"),
     (" | &'b Q | & O", "LifetimeUnknown"),
-    ("'2 | & O | & O", "BadIdent"),
 ];
+
+/// A name that is no identifier.
+const BAD_IDENTS: [(&str, &str); 1] = [("'2 | & O | & O", "BadIdent")];
 
 #[test]
 fn borrows(rt: HostRuntime) -> Result<(), NoMemory> {
@@ -135,5 +137,6 @@ fn callbacks(rt: HostRuntime) -> Result<(), NoMemory> {
 
 #[test]
 fn faulty(rt: HostRuntime) -> Result<(), NoMemory> {
-    compare(&rt, rt.alloc(), Call::NumberFunction, &FAULTY)
+    compare(&rt, rt.alloc(), Call::NumberFunction, &FAULTY)?;
+    compare(&rt, rt.alloc(), Call::NumberFunction, &BAD_IDENTS)
 }

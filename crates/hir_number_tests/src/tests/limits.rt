@@ -1,6 +1,6 @@
 //! As many lifetimes as there may be, and one more: by names, by anonymous ones, and by both.
 
-use super::answers::{Call, asked_of};
+use super::answers::{Call, RowKind, asked_of};
 use super::declared::structure;
 use super::made::{
     Signature, field, function_names, function_of, head_of, method_of, param, struct_with,
@@ -153,11 +153,11 @@ fn with_field(alloc: Global, row: &Row) -> Result<Item, NoMemory> {
 
 /// The item that a row declares for the call.
 fn declared(alloc: Global, call: Call, row: &Row) -> Result<Item, NoMemory> {
-    match call {
-        Call::NumberMethod | Call::TestMethod => with_method(alloc, row),
-        Call::NumberFunction | Call::TestFunction => function(alloc, row),
-        Call::NumberTraitMethod | Call::TestTraitMethod => with_trait_method(alloc, row),
-        Call::NumberFields | Call::TestFields => with_field(alloc, row),
+    match call.kind() {
+        RowKind::Method => with_method(alloc, row),
+        RowKind::Function => function(alloc, row),
+        RowKind::TraitMethod => with_trait_method(alloc, row),
+        RowKind::Fields => with_field(alloc, row),
     }
 }
 

@@ -6,7 +6,7 @@ use super::compare;
 use bridge_decl::NoMemory;
 
 /// `Self` is first in the receiver.
-const SELF_IN_RECEIVERS: [(&str, &str); 15] = [
+pub const SELF_IN_RECEIVERS: [(&str, &str); 15] = [
     (" | O | & | | ", "&0 O | | | 1"),
     (" | O | self | | ", "O | | | 0"),
     (" | S | & | | ", "&0 S<1> | | | 2"),
@@ -37,7 +37,7 @@ const SELF_IN_RECEIVERS: [(&str, &str); 15] = [
 ];
 
 /// The receiver isn't borrowed, so that a return borrows from the parameters; its generics don't count.
-const OWNED_RECEIVERS: [(&str, &str); 8] = [
+pub const OWNED_RECEIVERS: [(&str, &str); 8] = [
     ("'a | S<'a> | self | | & str", "ElisionNoSource"),
     (" | S | self | & O | & O", "S<0> | &1 O | &1 O | 2"),
     (
@@ -55,7 +55,7 @@ const OWNED_RECEIVERS: [(&str, &str); 8] = [
 ];
 
 /// There is no receiver, and `Self` is first in a parameter.
-const SELF_IN_PARAMETERS: [(&str, &str); 9] = [
+pub const SELF_IN_PARAMETERS: [(&str, &str); 9] = [
     ("'a | A<'a> | | & Self | & O", "| &1 Self:A<0> | &1 O | 2"),
     (" | A | | & Self | & O", "| &0 Self:A<1> | &0 O | 2"),
     (
@@ -77,7 +77,7 @@ const SELF_IN_PARAMETERS: [(&str, &str); 9] = [
 ];
 
 /// There is no receiver, and `Self` is first in the return.
-const SELF_IN_RETURNS: [(&str, &str); 7] = [
+pub const SELF_IN_RETURNS: [(&str, &str); 7] = [
     ("'a | A<'a> | | | & O", "ElisionNoSource"),
     (" | S | | | Self", "| | Self:S<0> | 1"),
     (" | S | | & O | Self", "| &0 O | Self:S<1> | 2"),
@@ -91,7 +91,7 @@ const SELF_IN_RETURNS: [(&str, &str); 7] = [
 ];
 
 /// The trailing writer is no parameter.
-const WRITERS: [(&str, &str); 3] = [
+pub const WRITERS: [(&str, &str); 3] = [
     (" | O | & | & O ; &mut Write | ", "&0 O | &1 O | | 2"),
     (
         " | O | & | &mut Write ; & O | ",
@@ -101,14 +101,16 @@ const WRITERS: [(&str, &str); 3] = [
 ];
 
 /// What the tests would have told first.
-const FAULTY: [(&str, &str); 6] = [
+pub const FAULTY: [(&str, &str); 5] = [
     (" | O | & | Q | ", "UnresolvedPath"),
     (" | O | & | & S<'static,'static> | ", "LifetimeArity"),
     (" | O | & | E<'static> | ", "LifetimeArity"),
     (" | O | & | &'c O | ", "LifetimeUnknown"),
     (" | O | & | | &'c O", "LifetimeUnknown"),
-    ("'1 | O | & | | ", "BadIdent"),
 ];
+
+/// A name that is no identifier.
+const BAD_IDENTS: [(&str, &str); 1] = [("'1 | O | & | | ", "BadIdent")];
 
 #[test]
 fn self_in_receivers(rt: HostRuntime) -> Result<(), NoMemory> {
@@ -137,5 +139,6 @@ fn writers(rt: HostRuntime) -> Result<(), NoMemory> {
 
 #[test]
 fn faulty(rt: HostRuntime) -> Result<(), NoMemory> {
-    compare(&rt, rt.alloc(), Call::NumberMethod, &FAULTY)
+    compare(&rt, rt.alloc(), Call::NumberMethod, &FAULTY)?;
+    compare(&rt, rt.alloc(), Call::NumberMethod, &BAD_IDENTS)
 }

@@ -5,7 +5,7 @@ use super::compare;
 use bridge_decl::NoMemory;
 
 /// Lifetimes, the trait, the receiver, the parameters and the return; and then the same with numbers, and the count of all.
-const TRAIT_METHODS: [(&str, &str); 12] = [
+pub const TRAIT_METHODS: [(&str, &str); 12] = [
     (" | R | & | | ", "&0 R<1> | | | 2"),
     (" | R | & | & O | & O", "&0 R<1> | &2 O | &3 O | 4"),
     ("'a | R<'a> | & | & O | & O", "&1 R<0> | &2 O | &3 O | 4"),
@@ -32,8 +32,8 @@ const TRAIT_METHODS: [(&str, &str); 12] = [
     (" | R | & | & Q | ", "UnresolvedPath"),
 ];
 
-/// Lifetimes and the fields; and then the fields with numbers, or the fault.
-const FIELDS: [(&str, &str); 15] = [
+/// Lifetimes and the fields; and then the fields with numbers.
+pub const FIELDS: [(&str, &str); 7] = [
     ("'a | &'a O", "&0 O"),
     (
         "'a 'b | &'b O ; B<'b,'a> ; []&'a u8 ; &'a str",
@@ -50,6 +50,10 @@ const FIELDS: [(&str, &str); 15] = [
         "'a 'b | Self:S<'a,'b> ; Self:S<'b,'a>",
         "Self:S<0,1>; Self:S<1,0>",
     ),
+];
+
+/// Lifetimes and the fields; and then the fault.
+pub const FAULTY_FIELDS: [(&str, &str); 8] = [
     ("'a | & O", "AnonymousInDefinition"),
     ("'a | A", "AnonymousInDefinition"),
     ("'a | A<'a> ; B<'a>", "AnonymousInDefinition"),
@@ -67,5 +71,6 @@ fn trait_methods(rt: HostRuntime) -> Result<(), NoMemory> {
 
 #[test]
 fn fields(rt: HostRuntime) -> Result<(), NoMemory> {
-    compare(&rt, rt.alloc(), Call::NumberFields, &FIELDS)
+    compare(&rt, rt.alloc(), Call::NumberFields, &FIELDS)?;
+    compare(&rt, rt.alloc(), Call::NumberFields, &FAULTY_FIELDS)
 }

@@ -38,7 +38,7 @@ pub fn put_number(text: &mut String, number: usize) -> Result<(), NoMemory> {
     text.push_str(digit(number))
 }
 
-fn put_lifetime(text: &mut String, lifetime: &MaybeStatic<Lifetime>) -> Result<(), NoMemory> {
+pub fn put_lifetime(text: &mut String, lifetime: &MaybeStatic<Lifetime>) -> Result<(), NoMemory> {
     match lifetime {
         MaybeStatic::Static => text.push_str("s"),
         MaybeStatic::NonStatic(lifetime) => put_number(text, lifetime.index()),
@@ -292,7 +292,7 @@ fn fault_word(fault: NumberFault) -> &'static str {
     }
 }
 
-fn put_fault(text: &mut String, fault: NumberFault) -> Result<(), NoMemory> {
+pub fn put_fault(text: &mut String, fault: NumberFault) -> Result<(), NoMemory> {
     text.push_str(fault_word(fault))
 }
 
