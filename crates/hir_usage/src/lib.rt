@@ -44,8 +44,8 @@
 //! borrowed, as in `pages`, and one that goes out where it is owned, as what `open` returns. A
 //! borrowed opaque that goes out and may be absent is in none.
 //!
-//! [`method_usages`], [`field_usages`] and [`trait_usages`] have the lists. In these results are lent and never copied, and a list
-//! takes one step and one place a use.
+//! [`method_usages`], [`field_usages`] and [`trait_usages`] give the lists. A list lends the results
+//! that it names, copies none of them, and takes one step and one place a use.
 //!
 //! # Tables
 //!
