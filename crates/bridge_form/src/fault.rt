@@ -112,6 +112,9 @@ pub enum ReadFault {
     NoMemory,
 }
 
+/// What is read of a value, or why it isn't.
+pub type Read<T> = Result<T, ReadFault>;
+
 impl ReadFault {
     ghost use Rattle.bridge_form.specs.Reading.{here};
 

@@ -13,7 +13,7 @@ ghost use Rattle.bridge_form.specs.Given.{GivesBy};
 ghost use Rattle.bridge_form.specs.Left.{IsLeft, Opens, are_apart, one_seen, seen, slots_seen};
 ghost use Rattle.bridge_form.specs.inside.Filling.{key_number, slots_after};
 
-use crate::fault::{Fault, ReadFault};
+use crate::fault::{Fault, Read, ReadFault};
 use crate::keys::Key;
 use crate::objects::members;
 use bridge_text::NoMemory;
@@ -34,7 +34,7 @@ pub struct Fields<'k> {
 impl<'k> Fields<'k> {
     /// All keys of the object that the value is; the fault of a value that is none, or of its first key that is none of these.
     #[tactic(auto, using(crate::proofs::FieldLemmas::refused, crate::proofs::FieldLemmas::no_object))]
-    pub fn of(alloc: Global, value: Value, keys: &'k [Key]) -> Result<Fields<'k>, ReadFault>
+    pub fn of(alloc: Global, value: Value, keys: &'k [Key]) -> Read<Fields<'k>>
         requires { are_apart keys.now ≡ true }
         ensures { Opens result keys.now (view value) }
     {
@@ -138,11 +138,7 @@ fn empty_slots(alloc: Global, count: usize) -> Result<Vec<Option<Value>>, NoMemo
 }
 
 /// A slot for each key of the form, with what stands under it; the fault of the first member whose key is none of these.
-fn fill(
-    alloc: Global,
-    form: &[Key],
-    mut members: Map<String, Value>,
-) -> Result<Vec<Option<Value>>, ReadFault>
+fn fill(alloc: Global, form: &[Key], mut members: Map<String, Value>) -> Read<Vec<Option<Value>>>
     ensures filled { GivesBy (λ slots. slots_seen slots.items) result
         (slots_after form.now (replicate (length form.now) None) (members_view members.entries)) }
     ensures long { IfOk result (λ slots. length slots.items ≡ length form.now) }
@@ -162,7 +158,7 @@ fn fill(
 /// The one key of an object under which something stands, with what stands there; the fault of a value that is no object, or of its first
 /// key that is none of these; else the wrong form, where something stands under no key or under more than one.
 #[tactic(auto, using(crate::proofs::SoleLemmas::sole_refused))]
-pub fn sole(alloc: Global, value: Value, form: &[Key]) -> Result<(Key, Value), ReadFault>
+pub fn sole(alloc: Global, value: Value, form: &[Key]) -> Read<(Key, Value)>
     requires { are_apart form.now ≡ true }
     ensures { GivesBy one_seen result (sole_under form.now (view value)) }
 {

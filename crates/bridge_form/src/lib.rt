@@ -13,8 +13,9 @@
 //! Of some objects one key alone may have something under it, as of a type: `{"box": "u8", "str": null}`. `sole` goes through the slots
 //! of such an object, and has `box` with `"u8"`; where something stands under no key or under more than one, it has the wrong form.
 //!
-//! A `Fault` is told with a `Pointer` (RFC 6901) to its place, which grows from the inside out: what is wrong in the first entry of the list
-//! is at `/0`, and `in_member` makes `/longer/0` of that. Values are handed on by value, and null is as good as no member at all.
+//! What a reader answers is a `Read`: what it has read, the value's first fault, or that memory ran out. A `Fault` is told with a
+//! `Pointer` (RFC 6901) to its place, which grows from the inside out: what is wrong in the first entry of the list is at `/0`, and
+//! `in_member` makes `/longer/0` of that. Values are handed on by value, and null is as good as no member at all.
 //!
 //! `specs/Form.antt` says what a form is: which value spells what, which faults it has, in which order, and what is read of it, which is the
 //! first fault where there is one. `proofs/` has the laws of all forms, that these three agree.
@@ -26,7 +27,7 @@ mod keys;
 mod objects;
 mod pointer;
 
-pub use fault::{Fault, InputKind, ReadFault};
+pub use fault::{Fault, InputKind, Read, ReadFault};
 pub use fields::{Fields, sole};
 pub use keys::Key;
 pub use objects::{

@@ -8,7 +8,7 @@ ghost use Rattle.bridge_form.specs.Form.{members_in, object_of};
 ghost use Rattle.bridge_form.specs.Reading.{at_key, entries_of, inside, text_of, under};
 ghost use Rattle.bridge_form.specs.Given.{Gives, GivesBy};
 
-use crate::fault::ReadFault;
+use crate::fault::{Read, ReadFault};
 use crate::keys::Key;
 use crate::pointer::Step;
 use bridge_text::Text;
@@ -28,11 +28,7 @@ pub fn under(value: &Value, key: Key) -> Option<&Value>
 
 /// What was read of the value under a key of that name, or its fault as one of the object.
 #[inline(always)]
-pub fn in_member_named<T: Drop>(
-    alloc: Global,
-    name: &str,
-    read: Result<T, ReadFault>,
-) -> Result<T, ReadFault>
+pub fn in_member_named<T: Drop>(alloc: Global, name: &str, read: Read<T>) -> Read<T>
     ensures { (was : Result T Wrong) → Gives read was
         → Gives result (inside (step.Member name.now) was) }
 {
@@ -48,11 +44,7 @@ pub fn in_member_named<T: Drop>(
 
 /// What was read of the value under a key, or its fault as one of the object.
 #[inline(always)]
-pub fn in_member<T: Drop>(
-    alloc: Global,
-    key: Key,
-    read: Result<T, ReadFault>,
-) -> Result<T, ReadFault>
+pub fn in_member<T: Drop>(alloc: Global, key: Key, read: Read<T>) -> Read<T>
     ensures { (was : Result T Wrong) → Gives read was → Gives result (inside (at_key key) was) }
 {
     in_member_named(alloc, key.text(), read)
@@ -60,7 +52,7 @@ pub fn in_member<T: Drop>(
 
 /// What was read of an entry of a list, or its fault as one of the list.
 #[inline(always)]
-pub fn in_entry<T: Drop>(number: usize, read: Result<T, ReadFault>) -> Result<T, ReadFault>
+pub fn in_entry<T: Drop>(number: usize, read: Read<T>) -> Read<T>
     ensures { (was : Result T Wrong) → Gives read was
         → Gives result (inside (step.Index number) was) }
 {
@@ -73,20 +65,18 @@ pub fn in_entry<T: Drop>(number: usize, read: Result<T, ReadFault>) -> Result<T,
 
 /// The members of an object.
 #[tactic(auto, unfolding(crate::specs::Form::members_in))]
-pub fn members(alloc: Global, value: Value) -> Result<Map<String, Value>, ReadFault>
+pub fn members(alloc: Global, value: Value) -> Read<Map<String, Value>>
     ensures { GivesBy (λ ms. members_view ms.entries) result (members_in (view value)) }
 {
-    match value {
-        Value::Object(members) => Ok(members),
-        Value::Null | Value::Bool(_) | Value::Number(_) | Value::String(_) | Value::Array(_) => {
-            Err(ReadFault::wrong_form(alloc))
-        }
-    }
+    let Value::Object(members) = value else {
+        return Err(ReadFault::wrong_form(alloc));
+    };
+    Ok(members)
 }
 
 /// Tests that the value is an object.
 #[tactic(auto, unfolding(crate::specs::Form::object_of))]
-pub fn object(alloc: Global, value: &Value) -> Result<(), ReadFault>
+pub fn object(alloc: Global, value: &Value) -> Read<()>
     ensures { Gives result (object_of (view value.now)) }
 {
     match value.as_object() {
@@ -97,7 +87,7 @@ pub fn object(alloc: Global, value: &Value) -> Result<(), ReadFault>
 
 /// The text that a value is, lent.
 #[tactic(auto, unfolding(crate::specs::Reading::text_of))]
-pub fn text(alloc: Global, value: &Value) -> Result<&str, ReadFault>
+pub fn text(alloc: Global, value: &Value) -> Read<&str>
     ensures { GivesBy (λ s. s.now) result (text_of (view value.now)) }
 {
     match value.as_str() {
@@ -108,26 +98,22 @@ pub fn text(alloc: Global, value: &Value) -> Result<&str, ReadFault>
 
 /// The text that a value is.
 #[tactic(auto, unfolding(crate::specs::Reading::text_of))]
-pub fn owned_text(alloc: Global, value: Value) -> Result<String, ReadFault>
+pub fn owned_text(alloc: Global, value: Value) -> Read<String>
     ensures { GivesBy string_bytes result (text_of (view value)) }
 {
-    match value {
-        Value::String(text) => Ok(text),
-        Value::Null | Value::Bool(_) | Value::Number(_) | Value::Array(_) | Value::Object(_) => {
-            Err(ReadFault::wrong_form(alloc))
-        }
-    }
+    let Value::String(text) = value else {
+        return Err(ReadFault::wrong_form(alloc));
+    };
+    Ok(text)
 }
 
 /// The entries of a list.
 #[tactic(auto, unfolding(crate::specs::Reading::entries_of))]
-pub fn entries(alloc: Global, value: Value) -> Result<Vec<Value>, ReadFault>
+pub fn entries(alloc: Global, value: Value) -> Read<Vec<Value>>
     ensures { GivesBy (λ vs. items_view vs.items) result (entries_of (view value)) }
 {
-    match value {
-        Value::Array(entries) => Ok(entries),
-        Value::Null | Value::Bool(_) | Value::Number(_) | Value::String(_) | Value::Object(_) => {
-            Err(ReadFault::wrong_form(alloc))
-        }
-    }
+    let Value::Array(entries) = value else {
+        return Err(ReadFault::wrong_form(alloc));
+    };
+    Ok(entries)
 }

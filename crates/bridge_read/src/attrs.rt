@@ -11,32 +11,28 @@ use crate::reading::{
     FromForm, held, keys, listed, needed, needed_some, optional, read_object, room_for, two,
 };
 use bridge_ast::{
-    Assign, Attrs, Boxed, DiplomatBackendAttr, DiplomatBackendAttrCfg, Items, Lit, Meta, MetaValue,
-    RenameAttr, RenameFault, Text,
+    Assign, Attrs, Boxed, DiplomatBackendAttr, DiplomatBackendAttrCfg as Condition, Items, Lit,
+    Meta, MetaValue, RenameAttr, RenameFault, Text,
 };
-use bridge_form::{Key, ReadFault, entries, in_entry, in_member, sole, text};
+use bridge_form::{Key, Read, ReadFault, entries, in_entry, in_member, sole, text};
 use serde_json::Value;
 use std::alloc::Global;
 
 /// A condition for which a word stands: `*` or `auto`.
 #[tactic(auto, unfolding(crate::specs::forms::Attrs::condition_word, crate::specs::forms::Attrs::condition_called))]
-fn condition_word(alloc: Global, value: &Value) -> Result<DiplomatBackendAttrCfg, ReadFault>
+fn condition_word(alloc: Global, value: &Value) -> Read<Condition>
     ensures { Gives result (condition_word.read (view value.now)) }
 {
     match text(alloc, value)? {
-        "*" => Ok(DiplomatBackendAttrCfg::Star),
-        "auto" => Ok(DiplomatBackendAttrCfg::Auto),
+        "*" => Ok(Condition::Star),
+        "auto" => Ok(Condition::Auto),
         _ => Err(ReadFault::wrong_form(alloc)),
     }
 }
 
 /// The conditions of a list.
 #[cycle(conditions)]
-fn condition_list(
-    alloc: Global,
-    value: Value,
-    levels: usize,
-) -> Result<Items<DiplomatBackendAttrCfg>, ReadFault>
+fn condition_list(alloc: Global, value: Value, levels: usize) -> Read<Items<Condition>>
     ensures { Gives result (list_of (condition_within levels).read (view value)) }
 {
     let entries = entries(alloc, value)?;
@@ -50,26 +46,21 @@ fn condition_list(
 
 /// What stands under the key of a condition, by the key.
 #[cycle(conditions)]
-fn condition_under(
-    alloc: Global,
-    key: Key,
-    value: Value,
-    levels: usize,
-) -> Result<DiplomatBackendAttrCfg, ReadFault>
+fn condition_under(alloc: Global, key: Key, value: Value, levels: usize) -> Read<Condition>
     ensures { Gives result ((condition_under (condition_within levels) key).read (view value)) }
 {
     match key {
-        Key::Backend => Ok(DiplomatBackendAttrCfg::BackendName(Text::from_form(alloc, value)?)),
+        Key::Backend => Ok(Condition::BackendName(Text::from_form(alloc, value)?)),
         Key::Pair => {
             let (name, value) = two(alloc, value)?;
-            Ok(DiplomatBackendAttrCfg::NameValue(name, value))
+            Ok(Condition::NameValue(name, value))
         }
         Key::Not => {
             let inner = condition_within(alloc, value, levels)?;
-            Ok(DiplomatBackendAttrCfg::Not(Boxed::new(alloc, inner)?))
+            Ok(Condition::Not(Boxed::new(alloc, inner)?))
         }
-        Key::Any => Ok(DiplomatBackendAttrCfg::Any(condition_list(alloc, value, levels)?)),
-        Key::All => Ok(DiplomatBackendAttrCfg::All(condition_list(alloc, value, levels)?)),
+        Key::Any => Ok(Condition::Any(condition_list(alloc, value, levels)?)),
+        Key::All => Ok(Condition::All(condition_list(alloc, value, levels)?)),
         _ => Err(ReadFault::wrong_form(alloc)),
     }
 }
@@ -77,11 +68,7 @@ fn condition_under(
 /// A condition in which conditions nest at most so deep.
 #[cycle(conditions)]
 #[tactic(auto, unfolding(bridge_form::specs::Left::are_apart, bridge_form::specs::Keys::key_text))]
-fn condition_within(
-    alloc: Global,
-    value: Value,
-    levels: usize,
-) -> Result<DiplomatBackendAttrCfg, ReadFault>
+fn condition_within(alloc: Global, value: Value, levels: usize) -> Read<Condition>
     ensures { Gives result ((condition_within levels).read (view value)) }
 {
     let Some(inner) = levels.checked_sub(1) else {
@@ -95,12 +82,12 @@ fn condition_within(
 }
 
 #[tactic(auto, unfolding(crate::specs::forms::Attrs::condition))]
-impl FromForm for DiplomatBackendAttrCfg {
+impl FromForm for Condition {
     ghost use Rattle.bridge_read.specs.forms.Attrs.{condition};
 
     ghost form = { condition.read };
 
-    fn from_form(alloc: Global, value: Value) -> Result<DiplomatBackendAttrCfg, ReadFault> {
+    fn from_form(alloc: Global, value: Value) -> Read<Condition> {
         condition_within(alloc, value, 128)
     }
 }
@@ -132,7 +119,7 @@ fn are_digits(bytes: &[u8]) -> bool
 
 /// A text of one or more decimal digits.
 #[tactic(auto, unfolding(crate::specs::forms::Attrs::digits))]
-fn digits(alloc: Global, value: Value) -> Result<Text, ReadFault>
+fn digits(alloc: Global, value: Value) -> Read<Text>
     ensures { Gives result (digits.read (view value)) }
 {
     let written = Text::from_form(alloc, value)?;
@@ -144,7 +131,7 @@ fn digits(alloc: Global, value: Value) -> Result<Text, ReadFault>
 
 /// The literal for which a word stands: `other`.
 #[tactic(auto, unfolding(crate::specs::forms::Attrs::literal_word, crate::specs::forms::Attrs::literal_called))]
-fn literal_word(alloc: Global, value: &Value) -> Result<Lit, ReadFault>
+fn literal_word(alloc: Global, value: &Value) -> Read<Lit>
     ensures { Gives result (literal_word.read (view value.now)) }
 {
     if text(alloc, value)? == "other" {
@@ -155,7 +142,7 @@ fn literal_word(alloc: Global, value: &Value) -> Result<Lit, ReadFault>
 }
 
 /// What stands under the key of a literal, by the key.
-fn literal_under(alloc: Global, key: Key, value: Value) -> Result<Lit, ReadFault>
+fn literal_under(alloc: Global, key: Key, value: Value) -> Read<Lit>
     ensures { Gives result ((literal_under key).read (view value)) }
 {
     match key {
@@ -181,7 +168,7 @@ impl FromForm for Lit {
 
     ghost form = { literal.read };
 
-    fn from_form(alloc: Global, value: Value) -> Result<Lit, ReadFault> {
+    fn from_form(alloc: Global, value: Value) -> Read<Lit> {
         if let Some(_) = value.as_str() {
             return literal_word(alloc, &value);
         }
@@ -196,7 +183,7 @@ impl FromForm for Assign {
 
     ghost form = { assign.read };
 
-    fn from_form(alloc: Global, value: Value) -> Result<Assign, ReadFault> {
+    fn from_form(alloc: Global, value: Value) -> Read<Assign> {
         read_object!(alloc, value, left, {
             Name => name = needed(alloc, &mut left)?;
             Value => value = needed(alloc, &mut left)?;
@@ -222,7 +209,7 @@ impl FromForm for DiplomatBackendAttr {
 
     ghost form = { mark.read };
 
-    fn from_form(alloc: Global, value: Value) -> Result<DiplomatBackendAttr, ReadFault> {
+    fn from_form(alloc: Global, value: Value) -> Read<DiplomatBackendAttr> {
         read_object!(alloc, value, left, {
             Condition => cfg = needed(alloc, &mut left)?;
             Mark => path = needed_some(alloc, &mut left)?;
@@ -241,7 +228,7 @@ impl FromForm for RenameAttr {
 
     ghost form = { pattern.read };
 
-    fn from_form(alloc: Global, value: Value) -> Result<RenameAttr, ReadFault> {
+    fn from_form(alloc: Global, value: Value) -> Read<RenameAttr> {
         match RenameAttr::new(alloc, text(alloc, &value)?) {
             Ok(attr) => Ok(attr),
             Err(RenameFault::Pattern) => Err(ReadFault::wrong_form(alloc)),
@@ -256,7 +243,7 @@ impl FromForm for Attrs {
 
     ghost form = { attrs.read };
 
-    fn from_form(alloc: Global, value: Value) -> Result<Attrs, ReadFault> {
+    fn from_form(alloc: Global, value: Value) -> Read<Attrs> {
         read_object!(alloc, value, left, {
             Features => features = listed(alloc, &mut left)?;
             Marks => marks = listed(alloc, &mut left)?;

@@ -11,7 +11,7 @@ ghost use Rattle.bridge_read.specs.inside.Taking.{Takes};
 use crate::attrs::no_attrs;
 use crate::reading::{FromForm, held, listed, needed, needed_word, read_object};
 use bridge_ast::{Attrs, DocBlock, Docs, Items, RustLink};
-use bridge_form::{Fields, Key, ReadFault};
+use bridge_form::{Fields, Key, Read};
 use serde_json::Value;
 use std::alloc::Global;
 
@@ -21,7 +21,7 @@ impl FromForm for DocBlock {
 
     ghost form = { block.read };
 
-    fn from_form(alloc: Global, value: Value) -> Result<DocBlock, ReadFault> {
+    fn from_form(alloc: Global, value: Value) -> Read<DocBlock> {
         read_object!(alloc, value, left, {
             Condition => cfg = needed(alloc, &mut left)?;
             Lines => lines = needed(alloc, &mut left)?;
@@ -35,7 +35,7 @@ impl FromForm for RustLink {
 
     ghost form = { link.read };
 
-    fn from_form(alloc: Global, value: Value) -> Result<RustLink, ReadFault> {
+    fn from_form(alloc: Global, value: Value) -> Read<RustLink> {
         read_object!(alloc, value, left, {
             Path => path = needed(alloc, &mut left)?;
             Kind => typ = needed_word(alloc, &mut left)?;
@@ -50,7 +50,7 @@ impl FromForm for Docs {
 
     ghost form = { docs.read };
 
-    fn from_form(alloc: Global, value: Value) -> Result<Docs, ReadFault> {
+    fn from_form(alloc: Global, value: Value) -> Read<Docs> {
         read_object!(alloc, value, left, {
             Blocks => blocks = listed(alloc, &mut left)?;
             Links => links = listed(alloc, &mut left)?;
@@ -70,7 +70,7 @@ pub fn no_docs(alloc: Global) -> Docs
 
 /// The documentation and the attributes of a declaration.
 #[tactic(auto, unfolding(crate::specs::forms::Docs::documented))]
-pub fn documented(alloc: Global, left: &mut Fields) -> Result<(Docs, Attrs), ReadFault>
+pub fn documented(alloc: Global, left: &mut Fields) -> Read<(Docs, Attrs)>
     ensures { (keys : List Name) (d : Data) → IsLeft left.old (Key.Docs ∷ Key.Attrs ∷ keys) d
         → Takes result (read_alone documented d) left.new keys d }
 {

@@ -23,7 +23,7 @@ ghost use Rattle.bridge_read.specs.inside.Answers.{GivesEnv, GivesForm, IsNoJson
 use crate::modules::ModuleList;
 use crate::reading::{FromForm, held, needed, read_object};
 use bridge_ast::{Env, EnvFault, EnvFaultKind, EnvPlace, NoMemory, Text};
-use bridge_form::{InputKind, Pointer, ReadFault};
+use bridge_form::{InputKind, Pointer, Read, ReadFault};
 use bridge_pointers::place_pointer;
 use hir_backends::BasicAttributeValidator;
 use hir_config::LoweringConfig;
@@ -92,7 +92,7 @@ impl FromForm for Declared {
 
     ghost form = { whole.read };
 
-    fn from_form(alloc: Global, value: Value) -> Result<Declared, ReadFault> {
+    fn from_form(alloc: Global, value: Value) -> Read<Declared> {
         read_object!(alloc, value, left, {
             Root => modules = needed(alloc, &mut left)?;
             Backend => validator = held(alloc, &mut left, no_backend(alloc)?)?;

@@ -12,7 +12,7 @@ use crate::lifetimes::mutability;
 use crate::methods::{or_name, signed};
 use crate::reading::{FromForm, flag, listed, needed, optional, read_object};
 use bridge_ast::{Enum, Field, Function, Item, LifetimeEnv, OpaqueType, Struct, Trait, Variant};
-use bridge_form::{Key, ReadFault, in_member, object, under};
+use bridge_form::{Key, Read, ReadFault, in_member, object, under};
 use bridge_words::{ItemKind, one_word};
 use serde_json::Value;
 use std::alloc::Global;
@@ -23,7 +23,7 @@ impl FromForm for Field {
 
     ghost form = { field.read };
 
-    fn from_form(alloc: Global, value: Value) -> Result<Field, ReadFault> {
+    fn from_form(alloc: Global, value: Value) -> Read<Field> {
         read_object!(alloc, value, left, {
             Name => name = needed(alloc, &mut left)?;
             Ty => ty = needed(alloc, &mut left)?;
@@ -38,7 +38,7 @@ impl FromForm for Variant {
 
     ghost form = { variant.read };
 
-    fn from_form(alloc: Global, value: Value) -> Result<Variant, ReadFault> {
+    fn from_form(alloc: Global, value: Value) -> Read<Variant> {
         read_object!(alloc, value, left, {
             Name => name = needed(alloc, &mut left)?;
             Discriminant => discriminant = needed(alloc, &mut left)?;
@@ -49,7 +49,7 @@ impl FromForm for Variant {
 
 /// A struct, or an out-struct.
 #[tactic(auto, unfolding(crate::specs::forms::Docs::documented, bridge_form::specs::Left::are_apart, bridge_form::specs::Keys::key_text))]
-fn struct_item(alloc: Global, value: Value, output_only: bool) -> Result<Item, ReadFault>
+fn struct_item(alloc: Global, value: Value, output_only: bool) -> Read<Item>
     ensures { Gives result ((object_with (struct_parts output_only)).read (view value)) }
 {
     read_object!(alloc, value, left, {
@@ -67,7 +67,7 @@ fn struct_item(alloc: Global, value: Value, output_only: bool) -> Result<Item, R
 
 /// An opaque.
 #[tactic(auto, unfolding(crate::specs::forms::Items::opaque_parts, crate::specs::forms::Docs::documented, bridge_form::specs::Left::are_apart, bridge_form::specs::Keys::key_text))]
-fn opaque(alloc: Global, value: Value) -> Result<Item, ReadFault>
+fn opaque(alloc: Global, value: Value) -> Read<Item>
     ensures { Gives result ((object_with opaque_parts).read (view value)) }
 {
     read_object!(alloc, value, left, {
@@ -88,7 +88,7 @@ fn opaque(alloc: Global, value: Value) -> Result<Item, ReadFault>
 
 /// An enum.
 #[tactic(auto, unfolding(crate::specs::forms::Items::enum_parts, crate::specs::forms::Docs::documented, bridge_form::specs::Left::are_apart, bridge_form::specs::Keys::key_text))]
-fn enum_item(alloc: Global, value: Value) -> Result<Item, ReadFault>
+fn enum_item(alloc: Global, value: Value) -> Read<Item>
     ensures { Gives result ((object_with enum_parts).read (view value)) }
 {
     read_object!(alloc, value, left, {
@@ -102,7 +102,7 @@ fn enum_item(alloc: Global, value: Value) -> Result<Item, ReadFault>
 
 /// A trait.
 #[tactic(auto, unfolding(crate::specs::forms::Items::trait_parts, crate::specs::forms::Docs::documented, bridge_form::specs::Left::are_apart, bridge_form::specs::Keys::key_text))]
-fn trait_item(alloc: Global, value: Value) -> Result<Item, ReadFault>
+fn trait_item(alloc: Global, value: Value) -> Read<Item>
     ensures { Gives result ((object_with trait_parts).read (view value)) }
 {
     read_object!(alloc, value, left, {
@@ -121,7 +121,7 @@ fn trait_item(alloc: Global, value: Value) -> Result<Item, ReadFault>
 
 /// A function.
 #[tactic(auto, unfolding(crate::specs::forms::Items::function_parts, crate::specs::forms::Methods::signature, crate::specs::forms::Docs::documented, bridge_form::specs::Left::are_apart, bridge_form::specs::Keys::key_text))]
-fn function(alloc: Global, value: Value) -> Result<Item, ReadFault>
+fn function(alloc: Global, value: Value) -> Read<Item>
     ensures { Gives result ((object_with function_parts).read (view value)) }
 {
     read_object!(alloc, value, left, {
@@ -138,7 +138,7 @@ fn function(alloc: Global, value: Value) -> Result<Item, ReadFault>
 }
 
 /// The kind of an item.
-fn kind_of(alloc: Global, value: &Value) -> Result<ItemKind, ReadFault>
+fn kind_of(alloc: Global, value: &Value) -> Read<ItemKind>
     ensures { Gives result
         (needed (one_word item_kind_words).read Key.Kind (view value.now)) }
 {
@@ -154,7 +154,7 @@ impl FromForm for Item {
 
     ghost form = { item_form.read };
 
-    fn from_form(alloc: Global, value: Value) -> Result<Item, ReadFault> {
+    fn from_form(alloc: Global, value: Value) -> Read<Item> {
         object(alloc, &value)?;
         match kind_of(alloc, &value)? {
             ItemKind::Struct => struct_item(alloc, value, false),

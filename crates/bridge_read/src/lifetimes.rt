@@ -4,8 +4,9 @@ ghost use Rattle.std.specs.Prelude.{◌≡◌};
 ghost use Rattle.bridge_read.specs.forms.Lifetimes.{lifetime_called, mutability};
 
 use crate::reading::{FromForm, flag, listed, needed, needed_some, read_object};
+use bridge_ast::Mutability::{Immutable, Mutable};
 use bridge_ast::{Lifetime, LifetimeNode, Mutability, PathType, Text};
-use bridge_form::ReadFault;
+use bridge_form::Read;
 use serde_json::Value;
 use std::alloc::Global;
 
@@ -15,7 +16,7 @@ impl FromForm for LifetimeNode {
 
     ghost form = { node.read };
 
-    fn from_form(alloc: Global, value: Value) -> Result<LifetimeNode, ReadFault> {
+    fn from_form(alloc: Global, value: Value) -> Read<LifetimeNode> {
         read_object!(alloc, value, left, {
             Name => name = needed(alloc, &mut left)?;
             Longer => longer = listed(alloc, &mut left)?;
@@ -42,7 +43,7 @@ impl FromForm for Lifetime {
 
     ghost form = { lifetime.read };
 
-    fn from_form(alloc: Global, value: Value) -> Result<Lifetime, ReadFault> {
+    fn from_form(alloc: Global, value: Value) -> Read<Lifetime> {
         Ok(lifetime_called(Text::from_form(alloc, value)?))
     }
 }
@@ -51,11 +52,7 @@ impl FromForm for Lifetime {
 pub fn mutability(mutable: bool) -> Mutability
     ensures { result ≡ mutability mutable }
 {
-    if mutable {
-        Mutability::Mutable
-    } else {
-        Mutability::Immutable
-    }
+    if mutable { Mutable } else { Immutable }
 }
 
 #[tactic(auto, unfolding(crate::specs::forms::Lifetimes::reference, bridge_form::specs::Left::are_apart, bridge_form::specs::Keys::key_text))]
@@ -64,7 +61,7 @@ impl FromForm for (Lifetime, Mutability) {
 
     ghost form = { reference.read };
 
-    fn from_form(alloc: Global, value: Value) -> Result<(Lifetime, Mutability), ReadFault> {
+    fn from_form(alloc: Global, value: Value) -> Read<(Lifetime, Mutability)> {
         read_object!(alloc, value, left, {
             Lifetime => lifetime = needed(alloc, &mut left)?;
             Mutable => mutable = flag(alloc, &mut left)?;
@@ -78,7 +75,7 @@ impl FromForm for PathType {
 
     ghost form = { path.read };
 
-    fn from_form(alloc: Global, value: Value) -> Result<PathType, ReadFault> {
+    fn from_form(alloc: Global, value: Value) -> Read<PathType> {
         read_object!(alloc, value, left, {
             Segments => segments = needed_some(alloc, &mut left)?;
             Lifetimes => lifetimes = listed(alloc, &mut left)?;

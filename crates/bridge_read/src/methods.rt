@@ -15,7 +15,7 @@ use bridge_ast::{
     Items, LifetimeEnv, LifetimeNode, Method, NoMemory, Param, PathType, SelfParam, Text,
     TraitMethod, TraitSelfParam, TypeName,
 };
-use bridge_form::{Fields, Key, ReadFault};
+use bridge_form::{Fields, Key, Read};
 use serde_json::Value;
 use std::alloc::Global;
 
@@ -35,7 +35,7 @@ impl FromForm for Param {
 
     ghost form = { param.read };
 
-    fn from_form(alloc: Global, value: Value) -> Result<Param, ReadFault> {
+    fn from_form(alloc: Global, value: Value) -> Read<Param> {
         read_object!(alloc, value, left, {
             Name => name = needed(alloc, &mut left)?;
             Ty => ty = needed(alloc, &mut left)?;
@@ -50,7 +50,7 @@ impl FromForm for SelfParam {
 
     ghost form = { receiver.read };
 
-    fn from_form(alloc: Global, value: Value) -> Result<SelfParam, ReadFault> {
+    fn from_form(alloc: Global, value: Value) -> Read<SelfParam> {
         read_object!(alloc, value, left, {
             Reference => reference = optional(alloc, &mut left)?;
             Path => path_type = needed(alloc, &mut left)?;
@@ -72,7 +72,7 @@ pub struct Signature {
 
 /// The signature of a method or function.
 #[tactic(auto, unfolding(crate::specs::forms::Methods::signature))]
-pub fn signed(alloc: Global, left: &mut Fields) -> Result<Signature, ReadFault>
+pub fn signed(alloc: Global, left: &mut Fields) -> Read<Signature>
     ensures { (keys : List Name) (d : Data)
         → IsLeft left.old (Key.Lifetimes ∷ Key.Params ∷ Key.Ret ∷ keys) d
         → Takes result (read_alone signature d) left.new keys d }
@@ -99,7 +99,7 @@ pub struct MethodHead {
 
 /// What stands before the signature of a method.
 #[tactic(auto, unfolding(crate::specs::forms::Methods::method_head))]
-fn method_head(alloc: Global, left: &mut Fields) -> Result<MethodHead, ReadFault>
+fn method_head(alloc: Global, left: &mut Fields) -> Read<MethodHead>
     ensures { (keys : List Name) (d : Data)
         → IsLeft left.old (Key.Name ∷ Key.AbiName ∷ Key.SelfType ∷ Key.Itself ∷ keys) d
         → Takes result (read_alone method_head d) left.new keys d }
@@ -122,7 +122,7 @@ impl FromForm for Method {
 
     ghost form = { method.read };
 
-    fn from_form(alloc: Global, value: Value) -> Result<Method, ReadFault> {
+    fn from_form(alloc: Global, value: Value) -> Read<Method> {
         read_object!(alloc, value, left, {
             Name AbiName SelfType Itself => head = method_head(alloc, &mut left)?;
             Lifetimes Params Ret => signature = signed(alloc, &mut left)?;
@@ -147,7 +147,7 @@ impl FromForm for TraitSelfParam {
 
     ghost form = { trait_receiver.read };
 
-    fn from_form(alloc: Global, value: Value) -> Result<TraitSelfParam, ReadFault> {
+    fn from_form(alloc: Global, value: Value) -> Read<TraitSelfParam> {
         read_object!(alloc, value, left, {
             Reference => reference = optional(alloc, &mut left)?;
             Path => path_trait = needed(alloc, &mut left)?;
@@ -170,7 +170,7 @@ pub struct TraitSignature {
 
 /// What stands between the name of a trait's method and its documentation.
 #[tactic(auto, unfolding(crate::specs::forms::Methods::trait_signature))]
-fn trait_signed(alloc: Global, left: &mut Fields) -> Result<TraitSignature, ReadFault>
+fn trait_signed(alloc: Global, left: &mut Fields) -> Read<TraitSignature>
     ensures { (keys : List Name) (d : Data)
         → IsLeft left.old (Key.Lifetimes ∷ Key.Itself ∷ Key.Params ∷ Key.Ret ∷ keys) d
         → Takes result (read_alone trait_signature d) left.new keys d }
@@ -189,7 +189,7 @@ impl FromForm for TraitMethod {
 
     ghost form = { trait_method.read };
 
-    fn from_form(alloc: Global, value: Value) -> Result<TraitMethod, ReadFault> {
+    fn from_form(alloc: Global, value: Value) -> Read<TraitMethod> {
         read_object!(alloc, value, left, {
             Name => name = needed(alloc, &mut left)?;
             Lifetimes Itself Params Ret => signature = trait_signed(alloc, &mut left)?;

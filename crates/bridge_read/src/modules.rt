@@ -14,7 +14,7 @@ ghost use Rattle.bridge_read.specs.inside.Names.{NamesModule};
 use crate::attrs::no_attrs;
 use crate::reading::{FromForm, held, listed, needed, read_object};
 use bridge_ast::{Alias, Attrs, Item, Items, Module, NoMemory, Text};
-use bridge_form::{Fields, Key, ReadFault, entries, in_entry, in_member};
+use bridge_form::{Fields, Key, Read, ReadFault, entries, in_entry, in_member};
 use serde_json::Value;
 use std::alloc::{AllocError, Global};
 use std::marker::Model;
@@ -25,7 +25,7 @@ impl FromForm for Alias {
 
     ghost form = { alias.read };
 
-    fn from_form(alloc: Global, value: Value) -> Result<Alias, ReadFault> {
+    fn from_form(alloc: Global, value: Value) -> Read<Alias> {
         read_object!(alloc, value, left, {
             Name => name = needed(alloc, &mut left)?;
             Target => target = needed(alloc, &mut left)?;
@@ -46,7 +46,7 @@ pub struct Contents {
 
 /// What stands in a module besides other modules.
 #[tactic(auto, unfolding(crate::specs::forms::Modules::contents))]
-fn contents_in(alloc: Global, left: &mut Fields) -> Result<Contents, ReadFault>
+fn contents_in(alloc: Global, left: &mut Fields) -> Read<Contents>
     ensures { (keys : List Name) (d : Data)
         → IsLeft left.old (Key.Attrs ∷ Key.Items ∷ Key.Aliases ∷ keys) d
         → Takes result (read_alone contents d) left.new keys d }
@@ -60,7 +60,7 @@ fn contents_in(alloc: Global, left: &mut Fields) -> Result<Contents, ReadFault>
 
 /// The name of a module, as it is written under the next key.
 #[tactic(auto, using(crate::proofs::ModuleLemmas::named, crate::proofs::ModuleLemmas::not_named))]
-fn module_name(alloc: Global, left: &mut Fields) -> Result<Text, ReadFault>
+fn module_name(alloc: Global, left: &mut Fields) -> Read<Text>
     ensures { (keys : List Name) (d : Data) → IsLeft left.old (Key.Name ∷ keys) d
         → NamesModule result left.new keys d }
 {
@@ -182,7 +182,7 @@ fn inner_modules(
     value: Value,
     path: &[Text],
     levels: usize,
-) -> Result<ModuleList, ReadFault>
+) -> Read<ModuleList>
     ensures { Gives result ((nested_in levels path.now).read (view value)) }
 {
     let mut modules = ModuleList::new(alloc);
@@ -204,7 +204,7 @@ fn nested_modules(
     left: &mut Fields,
     path: &[Text],
     levels: usize,
-) -> Result<ModuleList, ReadFault>
+) -> Read<ModuleList>
     ensures { (key : Name) (keys : List Name) (d : Data) → IsLeft left.old (key ∷ keys) d
         → Gives result (held [] (nested_in levels path.now).read key d) }
 {
@@ -226,7 +226,7 @@ fn module_object(
     value: Value,
     parent: &[Text],
     levels: usize,
-) -> Result<ModuleList, ReadFault>
+) -> Read<ModuleList>
     ensures { Gives result
         ((object_with (module_parts (nested_in levels) parent.now)).read (view value)) }
 {
@@ -246,7 +246,7 @@ fn module_within(
     value: Value,
     parent: &[Text],
     levels: usize,
-) -> Result<ModuleList, ReadFault>
+) -> Read<ModuleList>
     ensures { Gives result ((module_within levels parent.now).read (view value)) }
 {
     match levels.checked_sub(1) {
@@ -261,7 +261,7 @@ impl FromForm for ModuleList {
 
     ghost form = { root.read };
 
-    fn from_form(alloc: Global, value: Value) -> Result<ModuleList, ReadFault> {
+    fn from_form(alloc: Global, value: Value) -> Read<ModuleList> {
         let mut room = PATHS_MOST;
         read_object!(alloc, value, left, {
             Attrs Items Aliases => contents = contents_in(alloc, &mut left)?;

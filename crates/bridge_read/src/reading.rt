@@ -11,7 +11,7 @@ ghost use Rattle.bridge_form.specs.Left.{IsLeft};
 ghost use Rattle.bridge_form.specs.Reading.{entries_of, flag_of, list_of, text_of};
 
 use bridge_ast::{Items, NoMemory, Text};
-use bridge_form::{Fields, ReadFault, entries, in_entry, in_member, owned_text};
+use bridge_form::{Fields, Read, ReadFault, entries, in_entry, in_member, owned_text};
 use bridge_words::{Word, one_word};
 use serde_json::Value;
 use std::alloc::Global;
@@ -47,7 +47,7 @@ pub trait FromForm: Drop {
     ghost form: { Data → Result Self Wrong };
 
     /// What the value is read as, or its first fault.
-    fn from_form(alloc: Global, value: Value) -> Result<Self, ReadFault>
+    fn from_form(alloc: Global, value: Value) -> Read<Self>
         ensures { Gives result (form (view value)) };
 }
 
@@ -58,7 +58,7 @@ pub fn room_for<T>(alloc: Global, count: usize) -> Result<Items<T>, NoMemory>
     Ok(Items::from_vec(Vec::with_capacity(alloc, count)?))
 }
 
-fn list_of<T: FromForm>(alloc: Global, value: Value) -> Result<Items<T>, ReadFault>
+fn list_of<T: FromForm>(alloc: Global, value: Value) -> Read<Items<T>>
     ensures { Gives result (list_of T.form (view value)) }
 {
     let entries = entries(alloc, value)?;
@@ -71,7 +71,7 @@ fn list_of<T: FromForm>(alloc: Global, value: Value) -> Result<Items<T>, ReadFau
 }
 
 /// The list that a value is, which isn't empty.
-pub fn some_list_of<T: FromForm>(alloc: Global, value: Value) -> Result<Items<T>, ReadFault>
+pub fn some_list_of<T: FromForm>(alloc: Global, value: Value) -> Read<Items<T>>
     ensures { Gives result (some_of (list_of T.form) (view value)) }
 {
     let list = list_of(alloc, value)?;
@@ -84,7 +84,7 @@ pub fn some_list_of<T: FromForm>(alloc: Global, value: Value) -> Result<Items<T>
 impl<T: FromForm> FromForm for Items<T> {
     ghost form = { list_of T.form };
 
-    fn from_form(alloc: Global, value: Value) -> Result<Items<T>, ReadFault> {
+    fn from_form(alloc: Global, value: Value) -> Read<Items<T>> {
         list_of(alloc, value)
     }
 }
@@ -95,7 +95,7 @@ impl FromForm for Text {
 
     ghost form = { text_of };
 
-    fn from_form(alloc: Global, value: Value) -> Result<Text, ReadFault> {
+    fn from_form(alloc: Global, value: Value) -> Read<Text> {
         Ok(Text::from(owned_text(alloc, value)?))
     }
 }
@@ -106,7 +106,7 @@ impl FromForm for usize {
 
     ghost form = { number_read };
 
-    fn from_form(alloc: Global, value: Value) -> Result<usize, ReadFault> {
+    fn from_form(alloc: Global, value: Value) -> Read<usize> {
         Ok(value.as_u64().ok_or(ReadFault::wrong_form(alloc))? as usize)
     }
 }
@@ -117,7 +117,7 @@ impl FromForm for bool {
 
     ghost form = { flag_of };
 
-    fn from_form(alloc: Global, value: Value) -> Result<bool, ReadFault> {
+    fn from_form(alloc: Global, value: Value) -> Read<bool> {
         value.as_bool().ok_or(ReadFault::wrong_form(alloc))
     }
 }
@@ -128,7 +128,7 @@ impl FromForm for u8 {
 
     ghost form = { byte_of };
 
-    fn from_form(alloc: Global, value: Value) -> Result<u8, ReadFault> {
+    fn from_form(alloc: Global, value: Value) -> Read<u8> {
         match value.as_u64() {
             Some(number) if number < 256 => Ok(number as u8),
             _ => Err(ReadFault::wrong_form(alloc)),
@@ -142,13 +142,13 @@ impl FromForm for i64 {
 
     ghost form = { integer_of };
 
-    fn from_form(alloc: Global, value: Value) -> Result<i64, ReadFault> {
+    fn from_form(alloc: Global, value: Value) -> Read<i64> {
         value.as_i64().ok_or(ReadFault::wrong_form(alloc))
     }
 }
 
 /// The entries of a list of two.
-pub fn two<T: FromForm>(alloc: Global, value: Value) -> Result<(T, T), ReadFault>
+pub fn two<T: FromForm>(alloc: Global, value: Value) -> Read<(T, T)>
     ensures { Gives result (two_of T.form (view value)) }
 {
     let mut entries = entries(alloc, value)?.into_iter();
@@ -163,7 +163,7 @@ pub fn two<T: FromForm>(alloc: Global, value: Value) -> Result<(T, T), ReadFault
 }
 
 /// What stands under the next key, which is required.
-pub fn needed<T: FromForm>(alloc: Global, left: &mut Fields) -> Result<T, ReadFault>
+pub fn needed<T: FromForm>(alloc: Global, left: &mut Fields) -> Read<T>
     ensures { (key : Name) (keys : List Name) (d : Data) → IsLeft left.old (key ∷ keys) d
         → Takes result (needed T.form key d) left.new keys d }
 {
@@ -174,7 +174,7 @@ pub fn needed<T: FromForm>(alloc: Global, left: &mut Fields) -> Result<T, ReadFa
 }
 
 /// What the word under the next key stands for, which is required.
-pub fn needed_word<W: Word>(alloc: Global, left: &mut Fields) -> Result<W, ReadFault>
+pub fn needed_word<W: Word>(alloc: Global, left: &mut Fields) -> Read<W>
     ensures { (key : Name) (keys : List Name) (d : Data) → IsLeft left.old (key ∷ keys) d
         → Takes result (needed (one_word W.words).read key d) left.new keys d }
 {
@@ -185,7 +185,7 @@ pub fn needed_word<W: Word>(alloc: Global, left: &mut Fields) -> Result<W, ReadF
 }
 
 /// What stands under the next key, if anything does.
-pub fn optional<T: FromForm>(alloc: Global, left: &mut Fields) -> Result<Option<T>, ReadFault>
+pub fn optional<T: FromForm>(alloc: Global, left: &mut Fields) -> Read<Option<T>>
     ensures { (key : Name) (keys : List Name) (d : Data) → IsLeft left.old (key ∷ keys) d
         → Takes result (optional T.form key d) left.new keys d }
 {
@@ -196,7 +196,7 @@ pub fn optional<T: FromForm>(alloc: Global, left: &mut Fields) -> Result<Option<
 }
 
 /// What stands under the next key, or what its absence stands for.
-pub fn held<T: FromForm>(alloc: Global, left: &mut Fields, absent: T) -> Result<T, ReadFault>
+pub fn held<T: FromForm>(alloc: Global, left: &mut Fields, absent: T) -> Read<T>
     ensures { (key : Name) (keys : List Name) (d : Data) → IsLeft left.old (key ∷ keys) d
         → Takes result (held absent T.form key d) left.new keys d }
 {
@@ -207,7 +207,7 @@ pub fn held<T: FromForm>(alloc: Global, left: &mut Fields, absent: T) -> Result<
 }
 
 /// The list under the next key; the empty one where nothing stands there.
-pub fn listed<T: FromForm>(alloc: Global, left: &mut Fields) -> Result<Items<T>, ReadFault>
+pub fn listed<T: FromForm>(alloc: Global, left: &mut Fields) -> Read<Items<T>>
     ensures { (key : Name) (keys : List Name) (d : Data) → IsLeft left.old (key ∷ keys) d
         → Takes result (held [] (list_of T.form) key d) left.new keys d }
 {
@@ -215,7 +215,7 @@ pub fn listed<T: FromForm>(alloc: Global, left: &mut Fields) -> Result<Items<T>,
 }
 
 /// The list under the next key, which is required and not empty.
-pub fn needed_some<T: FromForm>(alloc: Global, left: &mut Fields) -> Result<Items<T>, ReadFault>
+pub fn needed_some<T: FromForm>(alloc: Global, left: &mut Fields) -> Read<Items<T>>
     ensures { (key : Name) (keys : List Name) (d : Data) → IsLeft left.old (key ∷ keys) d
         → Takes result (needed (some_of (list_of T.form)) key d) left.new keys d }
 {
@@ -226,7 +226,7 @@ pub fn needed_some<T: FromForm>(alloc: Global, left: &mut Fields) -> Result<Item
 }
 
 /// Whether `true` stands under the next key.
-pub fn flag(alloc: Global, left: &mut Fields) -> Result<bool, ReadFault>
+pub fn flag(alloc: Global, left: &mut Fields) -> Read<bool>
     ensures { (key : Name) (keys : List Name) (d : Data) → IsLeft left.old (key ∷ keys) d
         → Takes result (held false flag_of key d) left.new keys d }
 {

@@ -12,7 +12,7 @@ ghost use Rattle.bridge_read.specs.inside.Taking.{Takes, held};
 
 use crate::reading::{FromForm, flag, held, listed, needed, optional, read_object};
 use bridge_ast::{Items, NoMemory, Text};
-use bridge_form::{Fields, Key, ReadFault, in_member_named, members, text};
+use bridge_form::{Fields, Key, Read, ReadFault, in_member_named, members, text};
 use hir_backends::{BackendAttrSupport, BasicAttributeValidator, Names, Pairs, SupportFlag};
 use hir_config::LoweringConfig;
 use hir_docs::DocsUrlGenerator;
@@ -39,7 +39,7 @@ impl FromForm for SupportFlag {
 
     ghost form = { support_flag.read };
 
-    fn from_form(alloc: Global, value: Value) -> Result<SupportFlag, ReadFault> {
+    fn from_form(alloc: Global, value: Value) -> Read<SupportFlag> {
         flag_called(text(alloc, &value)?).ok_or(ReadFault::wrong_form(alloc))
     }
 }
@@ -62,7 +62,7 @@ impl FromForm for BackendAttrSupport {
 
     ghost form = { supported.read };
 
-    fn from_form(alloc: Global, value: Value) -> Result<BackendAttrSupport, ReadFault> {
+    fn from_form(alloc: Global, value: Value) -> Read<BackendAttrSupport> {
         let flags = Items::from_form(alloc, value)?;
         Ok(turned_on(flags.as_slice()))
     }
@@ -74,7 +74,7 @@ impl FromForm for (Text, Text) {
 
     ghost form = { name_value.read };
 
-    fn from_form(alloc: Global, value: Value) -> Result<(Text, Text), ReadFault> {
+    fn from_form(alloc: Global, value: Value) -> Read<(Text, Text)> {
         read_object!(alloc, value, left, {
             Name => name = needed(alloc, &mut left)?;
             Value => value = needed(alloc, &mut left)?;
@@ -83,7 +83,7 @@ impl FromForm for (Text, Text) {
 }
 
 /// The names under the next key; none where nothing stands there.
-fn names(alloc: Global, left: &mut Fields) -> Result<Names, ReadFault>
+fn names(alloc: Global, left: &mut Fields) -> Read<Names>
     ensures { (key : Name) (keys : List Name) (d : Data) → IsLeft left.old (key ∷ keys) d
         → Takes result (held [] (list_of text_of) key d) left.new keys d }
 {
@@ -91,7 +91,7 @@ fn names(alloc: Global, left: &mut Fields) -> Result<Names, ReadFault>
 }
 
 /// The pairs under the next key; none where nothing stands there.
-fn pairs(alloc: Global, left: &mut Fields) -> Result<Pairs, ReadFault>
+fn pairs(alloc: Global, left: &mut Fields) -> Read<Pairs>
     ensures { (key : Name) (keys : List Name) (d : Data) → IsLeft left.old (key ∷ keys) d
         → Takes result (held [] (list_of name_value.read) key d) left.new keys d }
 {
@@ -103,7 +103,7 @@ type BackendNames = (Text, Names, BackendAttrSupport);
 
 /// The keys that the backend begins with.
 #[tactic(auto, unfolding(crate::specs::forms::Settings::backend_names))]
-fn backend_names(alloc: Global, left: &mut Fields) -> Result<BackendNames, ReadFault>
+fn backend_names(alloc: Global, left: &mut Fields) -> Read<BackendNames>
     ensures { (keys : List Name) (d : Data)
         → IsLeft left.old (Key.Name ∷ Key.OtherNames ∷ Key.Supports ∷ keys) d
         → Takes result (read_alone backend_names d) left.new keys d }
@@ -121,7 +121,7 @@ impl FromForm for BasicAttributeValidator {
 
     ghost form = { backend.read };
 
-    fn from_form(alloc: Global, value: Value) -> Result<BasicAttributeValidator, ReadFault> {
+    fn from_form(alloc: Global, value: Value) -> Read<BasicAttributeValidator> {
         read_object!(alloc, value, left, {
             Name OtherNames Supports => called = backend_names(alloc, &mut left)?;
             Pairs => name_values = pairs(alloc, &mut left)?;
@@ -143,7 +143,7 @@ impl FromForm for LoweringConfig {
 
     ghost form = { config.read };
 
-    fn from_form(alloc: Global, value: Value) -> Result<LoweringConfig, ReadFault> {
+    fn from_form(alloc: Global, value: Value) -> Read<LoweringConfig> {
         read_object!(alloc, value, left, {
             UnsafeReferences => unsafe_references_in_callbacks = flag(alloc, &mut left)?;
         } Ok(LoweringConfig { unsafe_references_in_callbacks }))
@@ -201,7 +201,7 @@ impl FromForm for Bases {
 
     ghost form = { bases.read };
 
-    fn from_form(alloc: Global, value: Value) -> Result<Bases, ReadFault> {
+    fn from_form(alloc: Global, value: Value) -> Read<Bases> {
         let mut bases = Bases::new(alloc);
         for (name, entry) in members(alloc, value)? {
             if !entry.is_null() {
@@ -220,7 +220,7 @@ impl FromForm for DocsUrlGenerator {
 
     ghost form = { urls.read };
 
-    fn from_form(alloc: Global, value: Value) -> Result<DocsUrlGenerator, ReadFault> {
+    fn from_form(alloc: Global, value: Value) -> Read<DocsUrlGenerator> {
         read_object!(alloc, value, left, {
             Default => default = optional(alloc, &mut left)?;
             Bases => bases = held(alloc, &mut left, Bases::new(alloc))?;

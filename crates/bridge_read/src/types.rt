@@ -13,12 +13,13 @@ ghost use Rattle.bridge_read.specs.forms.Types.{borrow_of, spelling, type_word, 
 
 use crate::lifetimes::mutability;
 use crate::reading::{FromForm, flag, keys, needed, needed_word, optional, read_object, room_for};
+use bridge_ast::StdlibOrDiplomat::{Diplomat, Stdlib};
 use bridge_ast::{
     Boxed, Items, Lifetime, Mutability, PathType, PrimitiveType, StdlibOrDiplomat, TypeName,
     WriteType,
 };
 use bridge_form::{
-    Fault, Fields, InputKind, Key, ReadFault, entries, in_entry, in_member, sole, text,
+    Fault, Fields, InputKind, Key, Read, ReadFault, entries, in_entry, in_member, sole, text,
 };
 use bridge_words::find_word;
 use serde_json::Value;
@@ -28,16 +29,12 @@ use std::alloc::Global;
 fn spelling(std: bool) -> StdlibOrDiplomat
     ensures { result ≡ spelling std }
 {
-    if std {
-        StdlibOrDiplomat::Stdlib
-    } else {
-        StdlibOrDiplomat::Diplomat
-    }
+    if std { Stdlib } else { Diplomat }
 }
 
 /// A type for which a word stands: a primitive type, `ordering` or `unit`.
 #[tactic(auto, unfolding(crate::specs::forms::Types::type_word, crate::specs::forms::Types::type_called))]
-fn type_word(alloc: Global, value: &Value) -> Result<TypeName, ReadFault>
+fn type_word(alloc: Global, value: &Value) -> Read<TypeName>
     ensures { Gives result (type_word.read (view value.now)) }
 {
     match text(alloc, value)? {
@@ -64,7 +61,7 @@ impl FromForm for WriteType {
 
     ghost form = { writer.read };
 
-    fn from_form(alloc: Global, value: Value) -> Result<WriteType, ReadFault> {
+    fn from_form(alloc: Global, value: Value) -> Read<WriteType> {
         match text(alloc, &value)? {
             "str" => Ok(WriteType::Str),
             "str16" => Ok(WriteType::Str16),
@@ -78,7 +75,7 @@ impl FromForm for WriteType {
 
 /// `{"lifetime": lifetime, "encoding": encoding, "std": bool}`.
 #[tactic(auto, unfolding(crate::specs::forms::Types::str_slice, crate::specs::forms::Types::encoding, bridge_form::specs::Left::are_apart, bridge_form::specs::Keys::key_text))]
-fn str_slice(alloc: Global, value: Value) -> Result<TypeName, ReadFault>
+fn str_slice(alloc: Global, value: Value) -> Read<TypeName>
     ensures { Gives result (str_slice.read (view value)) }
 {
     read_object!(alloc, value, left, {
@@ -90,7 +87,7 @@ fn str_slice(alloc: Global, value: Value) -> Result<TypeName, ReadFault>
 
 /// `{"encoding": encoding, "std": bool}`.
 #[tactic(auto, unfolding(crate::specs::forms::Types::str_list, crate::specs::forms::Types::encoding, bridge_form::specs::Left::are_apart, bridge_form::specs::Keys::key_text))]
-fn str_list(alloc: Global, value: Value) -> Result<TypeName, ReadFault>
+fn str_list(alloc: Global, value: Value) -> Read<TypeName>
     ensures { Gives result (str_list.read (view value)) }
 {
     read_object!(alloc, value, left, {
@@ -101,7 +98,7 @@ fn str_list(alloc: Global, value: Value) -> Result<TypeName, ReadFault>
 
 /// The lifetime of a slice with its mutability. A slice without a lifetime is owned; that it is mutable is then the wrong form.
 #[tactic(auto, unfolding(crate::specs::forms::Types::written_borrow))]
-fn borrow(alloc: Global, left: &mut Fields) -> Result<Option<(Lifetime, Mutability)>, ReadFault>
+fn borrow(alloc: Global, left: &mut Fields) -> Read<Option<(Lifetime, Mutability)>>
     ensures { (keys : List Name) (d : Data)
         → IsLeft left.old (Key.Lifetime ∷ Key.Mutable ∷ keys) d
         → Takes result (refined_at_of Key.Mutable borrow_of written_borrow d) left.new keys d }
@@ -120,7 +117,7 @@ fn borrow(alloc: Global, left: &mut Fields) -> Result<Option<(Lifetime, Mutabili
 
 /// `{"lifetime": lifetime, "mutable": bool, "of": primitive type, "std": bool}`.
 #[tactic(auto, unfolding(crate::specs::forms::Types::primitive_slice, crate::specs::forms::Types::primitive_name, crate::specs::forms::Types::borrow, crate::specs::forms::Types::written_borrow, bridge_form::specs::Left::are_apart, bridge_form::specs::Keys::key_text))]
-fn primitive_slice(alloc: Global, value: Value) -> Result<TypeName, ReadFault>
+fn primitive_slice(alloc: Global, value: Value) -> Read<TypeName>
     ensures { Gives result (primitive_slice.read (view value)) }
 {
     read_object!(alloc, value, left, {
@@ -132,7 +129,7 @@ fn primitive_slice(alloc: Global, value: Value) -> Result<TypeName, ReadFault>
 
 /// A type as what a type leads to.
 #[cycle(types)]
-fn boxed(alloc: Global, value: Value, levels: usize) -> Result<Boxed<TypeName>, ReadFault>
+fn boxed(alloc: Global, value: Value, levels: usize) -> Read<Boxed<TypeName>>
     ensures { Gives result ((type_within levels).read (view value)) }
 {
     Ok(Boxed::new(alloc, type_within(alloc, value, levels)?)?)
@@ -140,11 +137,7 @@ fn boxed(alloc: Global, value: Value, levels: usize) -> Result<Boxed<TypeName>, 
 
 /// A type under the next key, which is required, as what a type leads to.
 #[cycle(types)]
-fn needed_type(
-    alloc: Global,
-    left: &mut Fields,
-    levels: usize,
-) -> Result<Boxed<TypeName>, ReadFault>
+fn needed_type(alloc: Global, left: &mut Fields, levels: usize) -> Read<Boxed<TypeName>>
     ensures { (key : Name) (keys : List Name) (d : Data) → IsLeft left.old (key ∷ keys) d
         → Takes result (needed (type_within levels).read key d) left.new keys d }
 {
@@ -157,7 +150,7 @@ fn needed_type(
 /// `{"lifetime": lifetime, "mutable": bool, "to": type}`.
 #[cycle(types)]
 #[tactic(auto, unfolding(bridge_form::specs::Left::are_apart, bridge_form::specs::Keys::key_text))]
-fn reference_type(alloc: Global, value: Value, levels: usize) -> Result<TypeName, ReadFault>
+fn reference_type(alloc: Global, value: Value, levels: usize) -> Read<TypeName>
     ensures { Gives result ((reference_type (type_within levels)).read (view value)) }
 {
     read_object!(alloc, value, left, {
@@ -175,7 +168,7 @@ fn result_type(
     value: Value,
     whose: StdlibOrDiplomat,
     levels: usize,
-) -> Result<TypeName, ReadFault>
+) -> Read<TypeName>
     ensures { Gives result ((result_type (type_within levels) whose).read (view value)) }
 {
     read_object!(alloc, value, left, {
@@ -187,7 +180,7 @@ fn result_type(
 /// `{"lifetime": lifetime, "mutable": bool, "of": type, "std": bool}`.
 #[cycle(types)]
 #[tactic(auto, unfolding(crate::specs::forms::Types::borrow, crate::specs::forms::Types::written_borrow, bridge_form::specs::Left::are_apart, bridge_form::specs::Keys::key_text))]
-fn custom_slice(alloc: Global, value: Value, levels: usize) -> Result<TypeName, ReadFault>
+fn custom_slice(alloc: Global, value: Value, levels: usize) -> Read<TypeName>
     ensures { Gives result ((custom_slice (type_within levels)).read (view value)) }
 {
     read_object!(alloc, value, left, {
@@ -199,7 +192,7 @@ fn custom_slice(alloc: Global, value: Value, levels: usize) -> Result<TypeName, 
 
 /// The types of a list.
 #[cycle(types)]
-fn type_list(alloc: Global, value: Value, levels: usize) -> Result<Items<TypeName>, ReadFault>
+fn type_list(alloc: Global, value: Value, levels: usize) -> Read<Items<TypeName>>
     ensures { Gives result (list_of (type_within levels).read (view value)) }
 {
     let entries = entries(alloc, value)?;
@@ -213,11 +206,7 @@ fn type_list(alloc: Global, value: Value, levels: usize) -> Result<Items<TypeNam
 
 /// The types of parameters under the next key; none where nothing stands there.
 #[cycle(types)]
-fn types_under(
-    alloc: Global,
-    left: &mut Fields,
-    levels: usize,
-) -> Result<Items<TypeName>, ReadFault>
+fn types_under(alloc: Global, left: &mut Fields, levels: usize) -> Read<Items<TypeName>>
     ensures { (key : Name) (keys : List Name) (d : Data) → IsLeft left.old (key ∷ keys) d
         → Takes result (held [] (list_of (type_within levels).read) key d) left.new keys d }
 {
@@ -229,11 +218,7 @@ fn types_under(
 
 /// The type under the next key, as what a type leads to; `()` where nothing stands there.
 #[cycle(types)]
-fn type_or_unit(
-    alloc: Global,
-    left: &mut Fields,
-    levels: usize,
-) -> Result<Boxed<TypeName>, ReadFault>
+fn type_or_unit(alloc: Global, left: &mut Fields, levels: usize) -> Read<Boxed<TypeName>>
     ensures { (key : Name) (keys : List Name) (d : Data) → IsLeft left.old (key ∷ keys) d
         → Takes result (held TypeName.Unit (type_within levels).read key d) left.new keys d }
 {
@@ -246,7 +231,7 @@ fn type_or_unit(
 /// `{"params": [types], "ret": type, "mutable": bool}`.
 #[cycle(types)]
 #[tactic(auto, unfolding(bridge_form::specs::Left::are_apart, bridge_form::specs::Keys::key_text))]
-fn callback(alloc: Global, value: Value, levels: usize) -> Result<TypeName, ReadFault>
+fn callback(alloc: Global, value: Value, levels: usize) -> Read<TypeName>
     ensures { Gives result ((callback (type_within levels)).read (view value)) }
 {
     read_object!(alloc, value, left, {
@@ -258,7 +243,7 @@ fn callback(alloc: Global, value: Value, levels: usize) -> Result<TypeName, Read
 
 /// What stands under the key of a type, by the key.
 #[cycle(types)]
-fn type_under(alloc: Global, key: Key, value: Value, levels: usize) -> Result<TypeName, ReadFault>
+fn type_under(alloc: Global, key: Key, value: Value, levels: usize) -> Read<TypeName>
     ensures { Gives result ((type_under (type_within levels) key).read (view value)) }
 {
     match key {
@@ -267,16 +252,10 @@ fn type_under(alloc: Global, key: Key, value: Value, levels: usize) -> Result<Ty
         Key::ImplTrait => Ok(TypeName::ImplTrait(PathType::from_form(alloc, value)?)),
         Key::Ref => reference_type(alloc, value, levels),
         Key::Boxed => Ok(TypeName::Box(boxed(alloc, value, levels)?)),
-        Key::StdOption => Ok(TypeName::Option(
-            boxed(alloc, value, levels)?,
-            StdlibOrDiplomat::Stdlib,
-        )),
-        Key::DiplomatOption => Ok(TypeName::Option(
-            boxed(alloc, value, levels)?,
-            StdlibOrDiplomat::Diplomat,
-        )),
-        Key::StdResult => result_type(alloc, value, StdlibOrDiplomat::Stdlib, levels),
-        Key::DiplomatResult => result_type(alloc, value, StdlibOrDiplomat::Diplomat, levels),
+        Key::StdOption => Ok(TypeName::Option(boxed(alloc, value, levels)?, Stdlib)),
+        Key::DiplomatOption => Ok(TypeName::Option(boxed(alloc, value, levels)?, Diplomat)),
+        Key::StdResult => result_type(alloc, value, Stdlib, levels),
+        Key::DiplomatResult => result_type(alloc, value, Diplomat, levels),
         Key::Write => Ok(TypeName::Write(WriteType::from_form(alloc, value)?)),
         Key::Str => str_slice(alloc, value),
         Key::Strs => str_list(alloc, value),
@@ -290,7 +269,7 @@ fn type_under(alloc: Global, key: Key, value: Value, levels: usize) -> Result<Ty
 /// A type in which types nest at most so deep.
 #[cycle(types)]
 #[tactic(auto, unfolding(bridge_form::specs::Left::are_apart, bridge_form::specs::Keys::key_text))]
-fn type_within(alloc: Global, value: Value, levels: usize) -> Result<TypeName, ReadFault>
+fn type_within(alloc: Global, value: Value, levels: usize) -> Read<TypeName>
     ensures { Gives result ((type_within levels).read (view value)) }
 {
     let Some(inner) = levels.checked_sub(1) else {
@@ -313,7 +292,7 @@ impl FromForm for TypeName {
 
     ghost form = { type_name.read };
 
-    fn from_form(alloc: Global, value: Value) -> Result<TypeName, ReadFault> {
+    fn from_form(alloc: Global, value: Value) -> Read<TypeName> {
         type_within(alloc, value, 128)
     }
 }

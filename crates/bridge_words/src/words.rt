@@ -6,7 +6,7 @@ ghost use Rattle.bridge_form.specs.Form.{find_word, one_word};
 ghost use Rattle.bridge_form.specs.Given.{Gives};
 
 use bridge_decl::{DocType, PrimitiveType, RustLinkDisplay, StringEncoding};
-use bridge_form::{ReadFault, text};
+use bridge_form::{Read, ReadFault, text};
 use serde_json::Value;
 use std::alloc::Global;
 
@@ -44,7 +44,7 @@ pub fn find_word<W: Word>(name: &str) -> Option<W>
 }
 
 /// The value whose word the JSON value is.
-pub fn one_word<W: Word>(alloc: Global, value: &Value) -> Result<W, ReadFault>
+pub fn one_word<W: Word>(alloc: Global, value: &Value) -> Read<W>
     ensures { Gives result ((one_word W.words).read (view value.now)) }
 {
     match find_word(text(alloc, value)?) {
