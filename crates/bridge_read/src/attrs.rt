@@ -8,7 +8,8 @@ ghost use Rattle.bridge_form.specs.Given.{Gives};
 ghost use Rattle.bridge_read.specs.forms.Attrs.{condition_under, condition_within, condition_word, argument_of, digits, literal_called, literal_under, literal_word, no_attrs, sole_char};
 
 use crate::reading::{
-    FromForm, held, keys, listed, needed, needed_some, optional, read_object, room_for, two,
+    FromForm, held, keys_of, listed, needed, needed_some, optional, read_object, room_for, two,
+    under_key,
 };
 use bridge_ast::{
     Assign, Attrs, Boxed, DiplomatBackendAttr, DiplomatBackendAttrCfg as Condition, Items, Lit,
@@ -44,25 +45,31 @@ fn condition_list(alloc: Global, value: Value, levels: usize) -> Read<Items<Cond
     Ok(list)
 }
 
+/// The rows of a condition: each key, and what is read under it.
+macro_rules! condition_rows {
+    ($then:ident $key:ident $alloc:ident $value:ident $levels:ident) => {
+        $then!($key $alloc {
+            Backend => Ok(Condition::BackendName(Text::from_form($alloc, $value)?)),
+            Pair => {
+                let (name, value) = two($alloc, $value)?;
+                Ok(Condition::NameValue(name, value))
+            },
+            Not => {
+                let inner = condition_within($alloc, $value, $levels)?;
+                Ok(Condition::Not(Boxed::new($alloc, inner)?))
+            },
+            Any => Ok(Condition::Any(condition_list($alloc, $value, $levels)?)),
+            All => Ok(Condition::All(condition_list($alloc, $value, $levels)?)),
+        })
+    };
+}
+
 /// What stands under the key of a condition, by the key.
 #[cycle(conditions)]
 fn condition_under(alloc: Global, key: Key, value: Value, levels: usize) -> Read<Condition>
     ensures { Gives result ((condition_under (condition_within levels) key).read (view value)) }
 {
-    match key {
-        Key::Backend => Ok(Condition::BackendName(Text::from_form(alloc, value)?)),
-        Key::Pair => {
-            let (name, value) = two(alloc, value)?;
-            Ok(Condition::NameValue(name, value))
-        }
-        Key::Not => {
-            let inner = condition_within(alloc, value, levels)?;
-            Ok(Condition::Not(Boxed::new(alloc, inner)?))
-        }
-        Key::Any => Ok(Condition::Any(condition_list(alloc, value, levels)?)),
-        Key::All => Ok(Condition::All(condition_list(alloc, value, levels)?)),
-        _ => Err(ReadFault::wrong_form(alloc)),
-    }
+    condition_rows!(under_key key alloc value levels)
 }
 
 /// A condition in which conditions nest at most so deep.
@@ -77,7 +84,11 @@ fn condition_within(alloc: Global, value: Value, levels: usize) -> Read<Conditio
     if let Some(_) = value.as_str() {
         return condition_word(alloc, &value);
     }
-    let (key, found) = sole(alloc, value, keys![Backend Pair Not Any All])?;
+    let (key, found) = sole(
+        alloc,
+        value,
+        condition_rows!(keys_of key alloc value levels),
+    )?;
     in_member(alloc, key, condition_under(alloc, key, found, inner))
 }
 
@@ -141,25 +152,31 @@ fn literal_word(alloc: Global, value: &Value) -> Read<Lit>
     }
 }
 
+/// The rows of a literal: each key, and what is read under it.
+macro_rules! literal_rows {
+    ($then:ident $key:ident $alloc:ident $value:ident) => {
+        $then!($key $alloc {
+            Bool => Ok(Lit::Bool(bool::from_form($alloc, $value)?)),
+            Char => {
+                let char = sole_char(text($alloc, &$value)?);
+                Ok(Lit::Char(char.ok_or(ReadFault::wrong_form($alloc))?))
+            },
+            Byte => Ok(Lit::Byte(u8::from_form($alloc, $value)?)),
+            Int => Ok(Lit::Int(digits($alloc, $value)?)),
+            Float => {
+                text($alloc, &$value)?;
+                Ok(Lit::Float)
+            },
+            Str => Ok(Lit::Str(Text::from_form($alloc, $value)?)),
+        })
+    };
+}
+
 /// What stands under the key of a literal, by the key.
 fn literal_under(alloc: Global, key: Key, value: Value) -> Read<Lit>
     ensures { Gives result ((literal_under key).read (view value)) }
 {
-    match key {
-        Key::Bool => Ok(Lit::Bool(bool::from_form(alloc, value)?)),
-        Key::Char => {
-            let char = sole_char(text(alloc, &value)?);
-            Ok(Lit::Char(char.ok_or(ReadFault::wrong_form(alloc))?))
-        }
-        Key::Byte => Ok(Lit::Byte(u8::from_form(alloc, value)?)),
-        Key::Int => Ok(Lit::Int(digits(alloc, value)?)),
-        Key::Float => {
-            text(alloc, &value)?;
-            Ok(Lit::Float)
-        }
-        Key::Str => Ok(Lit::Str(Text::from_form(alloc, value)?)),
-        _ => Err(ReadFault::wrong_form(alloc)),
-    }
+    literal_rows!(under_key key alloc value)
 }
 
 #[tactic(auto, unfolding(crate::specs::forms::Attrs::literal, bridge_form::specs::Left::are_apart, bridge_form::specs::Keys::key_text))]
@@ -172,7 +189,7 @@ impl FromForm for Lit {
         if let Some(_) = value.as_str() {
             return literal_word(alloc, &value);
         }
-        let (key, found) = sole(alloc, value, keys![Bool Char Byte Int Float Str])?;
+        let (key, found) = sole(alloc, value, literal_rows!(keys_of key alloc value))?;
         in_member(alloc, key, literal_under(alloc, key, found))
     }
 }

@@ -34,8 +34,27 @@ macro_rules! read_object {
     }};
 }
 
+/// The keys of an object of which one alone may have something under it, of its rows: each has a key, and what reads what stands under it.
+macro_rules! keys_of {
+    ($key:ident $alloc:ident { $($name:ident => $read:expr,)* }) => {
+        $crate::reading::keys![$($name)*]
+    };
+}
+
+/// What stands under the key of such an object, read by the row of that key.
+macro_rules! under_key {
+    ($key:ident $alloc:ident { $($name:ident => $read:expr,)* }) => {
+        match $key {
+            $(bridge_form::Key::$name => $read,)*
+            _ => Err(bridge_form::ReadFault::wrong_form($alloc)),
+        }
+    };
+}
+
 pub(crate) use keys;
+pub(crate) use keys_of;
 pub(crate) use read_object;
+pub(crate) use under_key;
 
 /// What a JSON value of a form spells.
 pub trait FromForm: Drop {

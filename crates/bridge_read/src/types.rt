@@ -12,7 +12,9 @@ ghost use Rattle.bridge_form.specs.Left.{IsLeft};
 ghost use Rattle.bridge_read.specs.forms.Types.{borrow_of, spelling, type_word, type_under, type_within, written_primitive, reference_type, result_type, custom_slice, callback, str_slice, str_list, primitive_slice, written_borrow};
 
 use crate::lifetimes::mutability;
-use crate::reading::{FromForm, flag, keys, needed, needed_word, optional, read_object, room_for};
+use crate::reading::{
+    FromForm, flag, keys_of, needed, needed_word, optional, read_object, room_for, under_key,
+};
 use bridge_ast::StdlibOrDiplomat::{Diplomat, Stdlib};
 use bridge_ast::{
     Boxed, Items, Lifetime, Mutability, PathType, PrimitiveType, StdlibOrDiplomat, TypeName,
@@ -241,29 +243,35 @@ fn callback(alloc: Global, value: Value, levels: usize) -> Read<TypeName>
     } Ok(TypeName::Function(params, ret, mutability(mutable))))
 }
 
+/// The rows of a type: each key, and what is read under it.
+macro_rules! type_rows {
+    ($then:ident $key:ident $alloc:ident $value:ident $levels:ident) => {
+        $then!($key $alloc {
+            Named => Ok(TypeName::Named(PathType::from_form($alloc, $value)?)),
+            Itself => Ok(TypeName::SelfType(PathType::from_form($alloc, $value)?)),
+            ImplTrait => Ok(TypeName::ImplTrait(PathType::from_form($alloc, $value)?)),
+            Ref => reference_type($alloc, $value, $levels),
+            Boxed => Ok(TypeName::Box(boxed($alloc, $value, $levels)?)),
+            StdOption => Ok(TypeName::Option(boxed($alloc, $value, $levels)?, Stdlib)),
+            DiplomatOption => Ok(TypeName::Option(boxed($alloc, $value, $levels)?, Diplomat)),
+            StdResult => result_type($alloc, $value, Stdlib, $levels),
+            DiplomatResult => result_type($alloc, $value, Diplomat, $levels),
+            Write => Ok(TypeName::Write(WriteType::from_form($alloc, $value)?)),
+            Str => str_slice($alloc, $value),
+            Strs => str_list($alloc, $value),
+            Slice => primitive_slice($alloc, $value),
+            CustomSlice => custom_slice($alloc, $value, $levels),
+            Callback => callback($alloc, $value, $levels),
+        })
+    };
+}
+
 /// What stands under the key of a type, by the key.
 #[cycle(types)]
 fn type_under(alloc: Global, key: Key, value: Value, levels: usize) -> Read<TypeName>
     ensures { Gives result ((type_under (type_within levels) key).read (view value)) }
 {
-    match key {
-        Key::Named => Ok(TypeName::Named(PathType::from_form(alloc, value)?)),
-        Key::Itself => Ok(TypeName::SelfType(PathType::from_form(alloc, value)?)),
-        Key::ImplTrait => Ok(TypeName::ImplTrait(PathType::from_form(alloc, value)?)),
-        Key::Ref => reference_type(alloc, value, levels),
-        Key::Boxed => Ok(TypeName::Box(boxed(alloc, value, levels)?)),
-        Key::StdOption => Ok(TypeName::Option(boxed(alloc, value, levels)?, Stdlib)),
-        Key::DiplomatOption => Ok(TypeName::Option(boxed(alloc, value, levels)?, Diplomat)),
-        Key::StdResult => result_type(alloc, value, Stdlib, levels),
-        Key::DiplomatResult => result_type(alloc, value, Diplomat, levels),
-        Key::Write => Ok(TypeName::Write(WriteType::from_form(alloc, value)?)),
-        Key::Str => str_slice(alloc, value),
-        Key::Strs => str_list(alloc, value),
-        Key::Slice => primitive_slice(alloc, value),
-        Key::CustomSlice => custom_slice(alloc, value, levels),
-        Key::Callback => callback(alloc, value, levels),
-        _ => Err(ReadFault::wrong_form(alloc)),
-    }
+    type_rows!(under_key key alloc value levels)
 }
 
 /// A type in which types nest at most so deep.
@@ -278,11 +286,7 @@ fn type_within(alloc: Global, value: Value, levels: usize) -> Read<TypeName>
     if let Some(_) = value.as_str() {
         return type_word(alloc, &value);
     }
-    let keys = keys![
-        Named Itself ImplTrait Ref Boxed StdOption DiplomatOption StdResult DiplomatResult Write Str
-        Strs Slice CustomSlice Callback
-    ];
-    let (key, found) = sole(alloc, value, keys)?;
+    let (key, found) = sole(alloc, value, type_rows!(keys_of key alloc value levels))?;
     in_member(alloc, key, type_under(alloc, key, found, inner))
 }
 
