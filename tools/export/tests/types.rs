@@ -110,15 +110,41 @@ const PARAMETERS: &[(&str, &str)] = &[
     ("impl crate::Sink + 'a", r#"{"impl": {"segments": ["crate", "Sink"]}}"#),
 ];
 
+fn assert_is_exported_as(spelling: &str, expected: &str) {
+    let text = format!("#[diplomat::opaque] struct Foo<'a>(u8); impl<'a> Foo<'a> {{ pub fn f(p: {spelling}) {{}} }}");
+    let params = &bridge_of(&text)["items"][0]["methods"][0]["params"];
+    let expected = format!(r#"[{{"name": "p", "ty": {expected}}}]"#);
+    assert_eq!(*params, json(&expected), "of {spelling}");
+}
+
 #[test]
 fn parameters() {
     for (spelling, expected) in PARAMETERS {
-        let text =
-            format!("#[diplomat::opaque] struct Foo<'a>(u8); impl<'a> Foo<'a> {{ pub fn f(p: {spelling}) {{}} }}");
-        let params = &bridge_of(&text)["items"][0]["methods"][0]["params"];
-        let expected = format!(r#"[{{"name": "p", "ty": {expected}}}]"#);
-        assert_eq!(*params, json(&expected), "of {spelling}");
+        assert_is_exported_as(spelling, expected);
     }
+}
+
+/// What stands between backquotes in a cell of a table.
+fn quoted(cell: &str) -> Vec<&str> {
+    cell.split('`').skip(1).step_by(2).collect()
+}
+
+#[test]
+fn rows_of_the_documented_table() {
+    let page = include_str!("../../../docs/EXPORT.md");
+    let (_, from_types) = page.split_once("### Types").expect("the page tells of types");
+    let (types, _) = from_types.split_once("### Lifetimes").expect("the page tells of lifetimes after types");
+    let mut tested = 0;
+    for row in types.lines().filter(|line| line.starts_with("| `")) {
+        let (rust, as_json) = row.trim_matches(['|', ' ']).split_once(" | ").expect("a row has two cells");
+        let (spellings, forms) = (quoted(rust), quoted(as_json));
+        assert!(forms.len() == 1 || forms.len() == spellings.len(), "each has its form in {row}");
+        for (spelling, form) in spellings.iter().zip(forms.iter().cycle()) {
+            assert_is_exported_as(spelling, form);
+            tested += 1;
+        }
+    }
+    assert_eq!(tested, 44);
 }
 
 #[test]
