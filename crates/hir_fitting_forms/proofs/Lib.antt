@@ -14,5 +14,6 @@ pub mod Staged
 pub mod TraitParts
 pub mod Fields
 pub mod Catalogued
+pub mod Special
 pub mod Whole
 pub mod ItemParts

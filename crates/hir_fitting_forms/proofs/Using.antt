@@ -19,17 +19,11 @@ use Rattle.hir_ids.specs.declared.owners.Borrow.{Borrow as Loan}
 use Rattle.hir_ids.specs.declared.owners.InputOrOutput.{InputOrOutput}
 use Rattle.hir_ids.specs.declared.owners.InputOrOutput.TheVariants as status
 use Rattle.hir_mentions.specs.Callbacks.{CallbackReturnType, InputType, callback_mentions, callback_return_mentions, input_mentions, method_mentions, output_mentions}
-use Rattle.hir_mentions.specs.Definitions.{result_mentions, trait_mentions, opaque_alone}
-use Rattle.hir_mentions.specs.Mentions.{Mentioned, Path, Plain, Borrow, where_any, borrow_mentions, opaque_mention}
-use Rattle.hir_mentions.specs.Types.{mentions_step, receiver_mentions, return_mentions, struct_path_mentions, trait_path_mentions, returnable_mentions}
+use Rattle.hir_mentions.specs.Definitions.{result_mentions, trait_mentions}
+use Rattle.hir_mentions.specs.Mentions.{Mentioned, Path, Plain, Borrow, where_any}
+use Rattle.hir_mentions.specs.Types.{mentions_step, receiver_mentions, return_mentions, struct_path_mentions, trait_path_mentions}
 use Rattle.hir_number.proofs.FaultLemmas.{each_both}
-use Rattle.hir_fitting.proofs.Deciding.{there_from_arity}
-use Rattle.hir_ids.specs.declared.ids.SymbolId.TheVariants as symbol
-use Rattle.hir_ids.specs.declared.owners.MaybeOwn.{MaybeOwn}
-use Rattle.hir_ids.specs.declared.owners.Optional.{Optional}
-use Rattle.hir_form.specs.Forms.{opaque_type}
 use Rattle.hir_fitting.specs.Parts.{PartFits, method_part}
-use Rattle.hir_types.specs.declared.paths.OpaquePath.{OpaquePath}
 use Rattle.hir_types.specs.Named.{Returned, ReturnedType}
 use Rattle.hir_types.specs.Paths.{returnable_id}
 use Rattle.hir_types.specs.Returns.{type_in, error_of, success_of}
@@ -245,11 +239,3 @@ module _ (census : Census) (m : Method) (all : PartFits census (method_part m)) 
 
   pub given_fits : All (Fits census None) (where_any output_mentions (type_in (success_of m.output)))
   given_fits = each_all (Fits census None) (where_any output_mentions (type_in (success_of m.output))) given_free
-
-  -- an opaque that it gives
-  pub opaque_given : (path : OpaquePath Optional MaybeOwn) → type_in (success_of m.output) ≡ Some (opaque_type path) → All (Fits census None) (opaque_alone path.tcx_id)
-  opaque_given path is =
-      let named : Each (Fits census None) (output_mentions (opaque_type path)) = subst (λ t. Each (Fits census None) (where_any output_mentions t)) is given_free in
-      let own : Each (Fits census None) (opaque_mention path.tcx_id path.lifetimes ∷ where_any borrow_mentions (lent path.owner)) =
-      subst (Each (Fits census None)) (fold-roll-HirType _ _ _ _ _ _ (List Mentioned) (mentions_step lent returnable_mentions (λ _. []) (λ _. [])) (HirType-F.Opaque path)) named in
-      each_all (Fits census None) (opaque_alone path.tcx_id) (there_from_arity census (symbol.TypeId (type.Opaque path.tcx_id)) _ own.0.0, tt)

@@ -8,7 +8,6 @@ use Rattle.bridge_order.proofs.OrderLemmas.{all_got}
 use Rattle.hir_context.proofs.Naming.{none_unfit}
 use Rattle.hir_context.specs.Fitness.{AllNamed, IsUnfit, census_of, nesting_of, parts_at}
 use Rattle.hir_context.specs.declared.parts.Definitions.{Definitions}
-use Rattle.hir_definitions.specs.SpecialMethods.{no_special_methods}
 use Rattle.hir_definitions.specs.Usage.{unused}
 use Rattle.hir_definitions.specs.declared.definitions.StructDef.{StructDef}
 use Rattle.hir_definitions.specs.declared.definitions.TraitDef.{TraitDef}
@@ -26,12 +25,14 @@ use Rattle.hir_mentions.specs.Callbacks.{field_mentions, output_mentions}
 use Rattle.hir_mentions.specs.Definitions.{fields_mentions, special_mentions, trait_mentions, usage_mentions}
 use Rattle.hir_mentions.specs.Mentions.{Mentioned}
 use Rattle.hir_nesting.specs.Faults.{AllNestWell}
+use Rattle.hir_presence.specs.Presence.{special_methods}
 use Rattle.hir_types.specs.declared.types.HirType.{HirType}
 use Rattle.hir_fitting_forms.specs.DeclaredCensus.{declared_census}
 use Rattle.hir_fitting_forms.specs.DeclaredDefinitions.{EachFits, HaveDeclared}
+use Rattle.hir_fitting_forms.proofs.Special.{special_fit}
 
 module _ (census : Census) where
-  -- what is kept beside definitions names nothing at first
+  -- how definitions are used names nothing at first
   nothing_fits : PartFits census (free [])
   nothing_fits = All-nil (Fits census None)
 
@@ -43,8 +44,8 @@ module _ (census : Census) where
   type_parts methods special usage all h k =
       All-append (PartFits census) (map method_part methods) (special ∷ usage ∷ []) (All-map (PartFits census) method_part methods all) (two_fit special usage h k)
 
-  pub type_whole : (methods : List Method) → All (λ m. PartFits census (method_part m)) methods → DefinitionFits census (parts_of_type methods no_special_methods unused)
-  type_whole methods all = type_parts methods (free (special_mentions no_special_methods)) (free (usage_mentions unused)) all nothing_fits nothing_fits
+  pub type_whole : (methods : List Method) → All (λ m. PartFits census (method_part m)) methods → DefinitionFits census (parts_of_type methods (special_methods methods) unused)
+  type_whole methods all = type_parts methods (free (special_mentions (special_methods methods))) (free (usage_mentions unused)) all (special_fit census methods all) nothing_fits
 
   -- the last part is another
   last_changed : (first : List Part) (special before after : Part) → PartFits census after → All (PartFits census) (first ++ special ∷ before ∷ []) → All (PartFits census) (first ++ special ∷ after ∷ [])
@@ -56,17 +57,6 @@ module _ (census : Census) where
   pub used_whole : (methods : List Method) (special : SpecialMethodPresence) (before after : TypingUseInfo) → PartFits census (free (usage_mentions after))
       → DefinitionFits census (parts_of_type methods special before) → DefinitionFits census (parts_of_type methods special after)
   used_whole methods special before after h all = last_changed (map method_part methods) (free (special_mentions special)) (free (usage_mentions before)) (free (usage_mentions after)) h all
-
-  -- the part before the last is another
-  special_changed : (first : List Part) (before after usage : Part) → PartFits census after → All (PartFits census) (first ++ before ∷ usage ∷ []) → All (PartFits census) (first ++ after ∷ usage ∷ [])
-  special_changed [] before after usage h all = All-cons (PartFits census) after (usage ∷ []) h (All-tail (PartFits census) before (usage ∷ []) all)
-  special_changed (p ∷ first) before after usage h all =
-      All-cons (PartFits census) p (first ++ after ∷ usage ∷ []) (All-head (PartFits census) p (first ++ before ∷ usage ∷ []) all)
-      (special_changed first before after usage h (All-tail (PartFits census) p (first ++ before ∷ usage ∷ []) all))
-
-  pub special_whole : (methods : List Method) (before after : SpecialMethodPresence) (usage : TypingUseInfo) → PartFits census (free (special_mentions after))
-      → DefinitionFits census (parts_of_type methods before usage) → DefinitionFits census (parts_of_type methods after usage)
-  special_whole methods before after usage h all = special_changed (map method_part methods) (free (special_mentions before)) (free (special_mentions after)) (free (usage_mentions usage)) h all
 
   pub struct_whole : {P C O I S T : Type 0} (of_type : HirType P C O I S T → List Mentioned) (def : StructDef P C O I S T) → All (Fits census (Some def.lifetimes.count)) (fields_mentions of_type def.fields)
       → DefinitionFits census (parts_of_type def.methods def.special_method_presence def.usage) → DefinitionFits census (parts_of_struct of_type def)

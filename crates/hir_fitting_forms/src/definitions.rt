@@ -12,7 +12,6 @@ ghost use Rattle.bridge_decl.specs.declared.traits.Trait.{Trait};
 ghost use Rattle.hir_attrs.specs.declared.attrs.Attrs.{Attrs};
 ghost use Rattle.hir_context.specs.Fitness.{AllNamed, IsUnfit, nesting_of};
 ghost use Rattle.hir_context.specs.declared.parts.Definitions.{Definitions};
-ghost use Rattle.hir_definitions.specs.SpecialMethods.{no_special_methods};
 ghost use Rattle.hir_definitions.specs.Usage.{unused};
 ghost use Rattle.hir_definitions.specs.declared.definitions.StructDef.{StructDef};
 ghost use Rattle.hir_definitions.specs.declared.definitions.TraitDef.{TraitDef};
@@ -32,8 +31,9 @@ ghost use Rattle.hir_items.specs.Opaques.{opaque_item_form};
 ghost use Rattle.hir_items.specs.Setting.{Setting};
 ghost use Rattle.hir_items.specs.Structs.{out_struct_item_form, struct_item_form};
 ghost use Rattle.hir_mentions.specs.Callbacks.{field_mentions, output_mentions};
-ghost use Rattle.hir_mentions.specs.Definitions.{fields_mentions, special_mentions, trait_mentions, usage_mentions};
+ghost use Rattle.hir_mentions.specs.Definitions.{fields_mentions, trait_mentions, usage_mentions};
 ghost use Rattle.hir_nesting.specs.Faults.{AllNestWell};
+ghost use Rattle.hir_presence.specs.Presence.{special_methods};
 ghost use Rattle.hir_traits.specs.Traits.{trait_form};
 ghost use Rattle.hir_types.specs.declared.callbacks.NoCallback.{NoCallback};
 ghost use Rattle.hir_types.specs.declared.paths.NoTraitPath.{NoTraitPath};
@@ -46,22 +46,17 @@ ghost use Rattle.hir_fitting_forms.specs.DeclaredDefinitions.{EachFits, HaveDecl
 ghost use Rattle.hir_fitting_forms.specs.Naming.{NamesFit};
 
 /// A definition fits where its parts do. `types` says so of what each type has where nothing is
-/// known yet of its methods and of how it is used, and `used` and `special` that it keeps fitting
-/// once more is known of either; then a struct of either kind fits where its fields do too, and a
-/// trait where its methods do.
+/// known yet of how it is used: what it keeps of its special methods names what is there where
+/// these do. `used` says that it keeps fitting once more is known of its use; then a struct of
+/// either kind fits where its fields do too, and a trait where its methods do.
 pub fn definitions_fit_where_parts_do()
     ensures types { (census : Census) (methods : List Method)
         → All (λ m. PartFits census (method_part m)) methods
-        → DefinitionFits census (parts_of_type methods no_special_methods unused) }
+        → DefinitionFits census (parts_of_type methods (special_methods methods) unused) }
     ensures used { (census : Census) (methods : List Method) (special : SpecialMethodPresence)
         (before after : TypingUseInfo) → PartFits census (free (usage_mentions after))
         → DefinitionFits census (parts_of_type methods special before)
         → DefinitionFits census (parts_of_type methods special after) }
-    ensures special { (census : Census) (methods : List Method)
-        (before after : SpecialMethodPresence) (usage : TypingUseInfo)
-        → PartFits census (free (special_mentions after))
-        → DefinitionFits census (parts_of_type methods before usage)
-        → DefinitionFits census (parts_of_type methods after usage) }
     ensures structs { (census : Census)
         (def : StructDef Everywhere NoCallback Loan ℕ StructPath NoTraitPath)
         → All (Fits census (Some def.lifetimes.count)) (fields_mentions field_mentions def.fields)

@@ -53,13 +53,12 @@
 //! Each definition keeps the results in which it is used, as `Page` keeps that of `next`. It keeps
 //! no environment beside them, so their lifetimes may be any. They name what is there where the
 //! methods do that return them, [`uses_fit_where_types_do`], and so does all that is noted of uses,
-//! [`noted_uses_fit`], and what is kept of methods that are more than methods,
-//! [`special_methods_fit_where_methods_do`].
+//! [`noted_uses_fit`].
 //!
 //! # The whole
 //!
-//! A definition fits where its fields, its methods and its uses do:
-//! [`definitions_fit_where_parts_do`]. So what each item is lowered to fits,
+//! A definition fits where its fields, its methods and its uses do, and so does what it keeps of its
+//! special methods: [`definitions_fit_where_parts_do`]. So what each item is lowered to fits,
 //! [`items_are_lowered_to_what_fits`]. Definitions that are those of modules, each with the
 //! lifetimes that are declared, name only what is there where each of them fits among what is
 //! declared: [`declared_definitions_name_what_is_there`]. So whoever makes a context of them is
@@ -83,5 +82,5 @@ pub use definitions::{
     items_are_lowered_to_what_fits,
 };
 pub use forms::{signatures_stand_for_what_fits, types_stand_for_what_fits};
-pub use uses::{noted_uses_fit, special_methods_fit_where_methods_do, uses_fit_where_types_do};
+pub use uses::{noted_uses_fit, uses_fit_where_types_do};
 pub use wholes::{methods_stand_for_what_fits, trait_methods_stand_for_what_fits};

@@ -1,6 +1,6 @@
 //! Uses of definitions: each law is the contract of a function without a body.
 
-ghost use Rattle.std.specs.Prelude.{◌≡◌, ℕ, List, [], Option, Some, None};
+ghost use Rattle.std.specs.Prelude.{ℕ, List, [], Option, Some};
 ghost use Rattle.std.specs.List.{All};
 ghost use Rattle.hir_definitions.specs.declared.definitions.StructField.{StructField};
 ghost use Rattle.hir_definitions.specs.declared.definitions.TraitDef.{TraitDef};
@@ -8,19 +8,14 @@ ghost use Rattle.hir_definitions.specs.declared.methods.Method.{Method};
 ghost use Rattle.hir_fitting.specs.Fitting.{Fits};
 ghost use Rattle.hir_fitting.specs.Parts.{PartFits, free, method_part};
 ghost use Rattle.hir_fitting.specs.declared.census.Census.{Census};
-ghost use Rattle.hir_form.specs.Forms.{opaque_type};
 ghost use Rattle.hir_ids.specs.declared.owners.Borrow.{Borrow as Loan};
 ghost use Rattle.hir_ids.specs.declared.owners.InputOrOutput.TheVariants.{InputOutput};
 ghost use Rattle.hir_ids.specs.declared.owners.MaybeOwn.{MaybeOwn};
-ghost use Rattle.hir_ids.specs.declared.owners.Optional.{Optional};
-ghost use Rattle.hir_mentions.specs.Callbacks.{callback_mentions, output_mentions};
-ghost use Rattle.hir_mentions.specs.Definitions.{opaque_alone, trait_mentions};
-ghost use Rattle.hir_mentions.specs.Mentions.{where_any};
-ghost use Rattle.hir_types.specs.Returns.{success_of, type_in};
+ghost use Rattle.hir_mentions.specs.Callbacks.{callback_mentions};
+ghost use Rattle.hir_mentions.specs.Definitions.{trait_mentions};
 ghost use Rattle.hir_types.specs.declared.callbacks.Callback.{Callback as CallbackType};
 ghost use Rattle.hir_types.specs.declared.callbacks.NoCallback.{NoCallback};
 ghost use Rattle.hir_types.specs.declared.paths.NoTraitPath.{NoTraitPath};
-ghost use Rattle.hir_types.specs.declared.paths.OpaquePath.{OpaquePath};
 ghost use Rattle.hir_types.specs.declared.paths.ReturnableStructPath.{ReturnableStructPath};
 ghost use Rattle.hir_types.specs.declared.paths.StructPath.{StructPath};
 ghost use Rattle.hir_types.specs.declared.positions.Everywhere.{Everywhere};
@@ -59,15 +54,4 @@ pub fn noted_uses_fit()
         → UsagesFit census (unused_of structs out_structs opaques enums) }
     ensures noted { (census : Census) (us : List Used) (t : Usages)
         → All (UseFits census) us → UsagesFit census t → UsagesFit census (noted us t) }
-{}
-
-/// What is kept of methods that are more than methods names what is there, where the methods do:
-/// the value that one gives that steps through values, and the opaque that one gives.
-pub fn special_methods_fit_where_methods_do()
-    ensures iterator { (census : Census) (m : Method) → PartFits census (method_part m)
-        → All (Fits census None) (where_any output_mentions (type_in (success_of m.output))) }
-    ensures iterable { (census : Census) (m : Method) (path : OpaquePath Optional MaybeOwn)
-        → PartFits census (method_part m)
-        → type_in (success_of m.output) ≡ Some (opaque_type path)
-        → All (Fits census None) (opaque_alone path.tcx_id) }
 {}

@@ -27,9 +27,10 @@ as_reported path name (e ∷ es) form = refl
 -- where the methods were made, so is the whole
 pub defined_on :
     {W N M D E : Type 0} (P : Type 0) (define : W → N → List M → D) (notes : W) (own : Option N) (methods : Result (List M) E) (result : Result (Option D) E)
-    → result ≡ definition_of define notes own methods → OnOk methods P → OnOk result P
-defined_on P define notes own (Ok ms) result is p = subst (λ r. OnOk r P) (sym is) p
-defined_on P define notes own (Err e) result is p = subst (λ r. OnOk r P) (sym is) tt
+    → IfOk result (λ made. Ok made ≡ definition_of define notes own methods) → OnOk methods P → OnOk result P
+defined_on P define notes own methods (Err e) is p = tt
+defined_on P define notes own (Ok ms) (Ok made) is p = p
+defined_on P define notes own (Err e) (Ok made) is p = absurd cc
 
 -- with these methods
 all_defined : {N M D : Type 0} (define : N → List M → D) (own : Option N) (ms : List M) → option_map (λ n. define n ms) own ≡ both_given define own (Some ms)
@@ -88,9 +89,11 @@ module _ {W L : Type 0} (of_notes : List LoweringError) (of_own : W → List Low
 
       pub item_made :
           {E : Type 0} (has : Option N) (lowered : Result (List M) E) (result : Result (Option D) E) → (of_own noted ≡ [] → has ≡ form noted)
-          → IfOk lowered (λ ms. of_methods noted lent own.place.«module» own.place.item ≡ [] → methods_form noted lent ≡ Some ms) → result ≡ definition_of define noted has lowered
+          → IfOk lowered (λ ms. of_methods noted lent own.place.«module» own.place.item ≡ [] → methods_form noted lent ≡ Some ms) → IfOk result (λ x. Ok x ≡ definition_of define noted has lowered)
           → IfOk result (GivenUnlessReported (itself notes methods start.place.«module» name) (both_given (define notes) (form notes) (methods_form notes methods)))
-      item_made has lowered result made formed defines =
+      item_made has lowered (Err e) made formed defines = tt
+      item_made {E} has lowered (Ok x) made formed defines =
+          let result : Result (Option D) E = Ok x in
           subst (λ rs. IfOk result (GivenUnlessReported rs (both_given (define notes) (form notes) (methods_form notes methods)))) same_itself
           (subst (λ l. IfOk result (GivenUnlessReported (itself noted lent start.place.«module» shown) (both_given (define notes) (form notes) (methods_form notes l)))) parts.lends
           (subst (λ w. IfOk result (GivenUnlessReported (itself noted lent start.place.«module» shown) (both_given (define w) (form w) (methods_form w lent)))) parts.reads

@@ -1,10 +1,10 @@
 -- A declared enum: what is told of it, and what it is lowered to.
+use Rattle.hir_presence.specs.Presence.{special_methods}
 use Rattle.std.specs.Prelude.{ℕ, List, ◌++◌, Option, option_map}
 use Rattle.bridge_ast.specs.declared.place.ItemPlace.{ItemPlace}
 use Rattle.bridge_decl.specs.declared.enums.Enum.{Enum}
 use Rattle.hir_attrs.specs.declared.attrs.Attrs.{Attrs}
 use Rattle.hir_backends.specs.Backend.{Backend}
-use Rattle.hir_definitions.specs.SpecialMethods.{no_special_methods}
 use Rattle.hir_definitions.specs.Usage.{unused}
 use Rattle.hir_definitions.specs.declared.definitions.EnumDef.{EnumDef}
 use Rattle.hir_definitions.specs.declared.methods.Method.{Method}
@@ -49,7 +49,7 @@ enum_with backend module_set item methods =
       variants = variants_form backend (item_marks backend module_set item.attrs) item.variants;
       methods = methods;
       attrs = item_marks backend module_set item.attrs;
-      special_method_presence = no_special_methods;
+      special_method_presence = special_methods methods;
       usage = unused;
     }
 

@@ -1,11 +1,11 @@
 -- A declared opaque: what is told of it, and what it is lowered to.
+use Rattle.hir_presence.specs.Presence.{special_methods}
 use Rattle.std.specs.Prelude.{ℕ, List, [], ◌∷◌, ◌++◌, length, Option, option_map, nat_lt, if◌then◌else◌}
 use Rattle.bridge_ast.specs.declared.place.ItemPlace.{ItemPlace}
 use Rattle.bridge_decl.specs.declared.lifetimes.LifetimeEnv.{LifetimeEnv}
 use Rattle.bridge_decl.specs.declared.structs.OpaqueType.{OpaqueType}
 use Rattle.hir_attrs.specs.declared.attrs.Attrs.{Attrs}
 use Rattle.hir_backends.specs.Backend.{Backend}
-use Rattle.hir_definitions.specs.SpecialMethods.{no_special_methods}
 use Rattle.hir_definitions.specs.Usage.{unused}
 use Rattle.hir_definitions.specs.declared.definitions.OpaqueDef.{OpaqueDef}
 use Rattle.hir_definitions.specs.declared.methods.Method.{Method}
@@ -62,7 +62,7 @@ opaque_with backend module_set item methods =
       methods = methods;
       attrs = item_marks backend module_set item.attrs;
       lifetimes = declared_environment item.lifetimes;
-      special_method_presence = no_special_methods;
+      special_method_presence = special_methods methods;
       dtor_abi_name = item.dtor_abi_name;
       usage = unused;
     }

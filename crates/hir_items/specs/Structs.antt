@@ -1,4 +1,5 @@
 -- A declared struct or out-struct: what is told of it, and what it is lowered to.
+use Rattle.hir_presence.specs.Presence.{special_methods}
 use Rattle.std.specs.Prelude.{ℕ, List, [], ◌∷◌, ◌++◌, Option, Some, if◌then◌else◌}
 use Rattle.bridge_ast.specs.declared.place.ItemPlace.{ItemPlace}
 use Rattle.bridge_decl.specs.declared.methods.Method.{Method as DeclaredMethod}
@@ -6,7 +7,6 @@ use Rattle.bridge_decl.specs.declared.structs.Field.{Field}
 use Rattle.bridge_decl.specs.declared.structs.Struct.{Struct}
 use Rattle.hir_attrs.specs.declared.attrs.Attrs.{Attrs}
 use Rattle.hir_backends.specs.Backend.{Backend}
-use Rattle.hir_definitions.specs.SpecialMethods.{no_special_methods}
 use Rattle.hir_definitions.specs.Usage.{unused}
 use Rattle.hir_definitions.specs.declared.definitions.StructDef.{StructDef}
 use Rattle.hir_definitions.specs.declared.definitions.StructField.{StructField}
@@ -92,7 +92,7 @@ struct_with backend module_set item fields methods =
       methods = methods;
       attrs = item_marks backend module_set item.attrs;
       lifetimes = declared_environment item.lifetimes;
-      special_method_presence = no_special_methods;
+      special_method_presence = special_methods methods;
       usage = unused;
     }
 

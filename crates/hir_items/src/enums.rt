@@ -47,7 +47,13 @@ impl Own for EnumOwn {
 
     ghost define = { defined_enum };
 
-    fn define(self, alloc: Global, notes: Notes, methods: Items<Method>) -> EnumDef {
+    fn define(
+        self,
+        alloc: Global,
+        notes: Notes,
+        methods: Items<Method>,
+        special_method_presence: SpecialMethodPresence,
+    ) -> EnumDef {
         let EnumOwn { name, variants } = self;
         let Notes { docs, attrs } = notes;
         EnumDef {
@@ -56,7 +62,7 @@ impl Own for EnumOwn {
             variants,
             methods,
             attrs,
-            special_method_presence: SpecialMethodPresence::none(),
+            special_method_presence,
             usage: TypingUseInfo::unused(alloc),
         }
     }

@@ -49,7 +49,13 @@ impl Own for OpaqueOwn {
 
     ghost define = { defined_opaque };
 
-    fn define(self, alloc: Global, notes: Notes, methods: Items<Method>) -> OpaqueDef {
+    fn define(
+        self,
+        alloc: Global,
+        notes: Notes,
+        methods: Items<Method>,
+        special_method_presence: SpecialMethodPresence,
+    ) -> OpaqueDef {
         let OpaqueOwn {
             title,
             dtor_abi_name,
@@ -62,7 +68,7 @@ impl Own for OpaqueOwn {
             methods,
             attrs,
             lifetimes,
-            special_method_presence: SpecialMethodPresence::none(),
+            special_method_presence,
             dtor_abi_name,
             usage: TypingUseInfo::unused(alloc),
         }

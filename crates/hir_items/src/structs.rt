@@ -55,7 +55,13 @@ impl<P: TyPosition> Own for StructOwn<P> {
 
     ghost define = { defined_struct };
 
-    fn define(self, alloc: Global, notes: Notes, methods: Items<Method>) -> StructDef<P> {
+    fn define(
+        self,
+        alloc: Global,
+        notes: Notes,
+        methods: Items<Method>,
+        special_method_presence: SpecialMethodPresence,
+    ) -> StructDef<P> {
         let StructOwn { title, fields } = self;
         let Title { name, lifetimes } = title;
         let Notes { docs, attrs } = notes;
@@ -66,7 +72,7 @@ impl<P: TyPosition> Own for StructOwn<P> {
             methods,
             attrs,
             lifetimes,
-            special_method_presence: SpecialMethodPresence::none(),
+            special_method_presence,
             usage: TypingUseInfo::unused(alloc),
         }
     }

@@ -20,6 +20,7 @@ mod options;
 mod order;
 mod paths;
 mod pending;
+mod presence;
 mod signatures;
 mod slices;
 mod special;

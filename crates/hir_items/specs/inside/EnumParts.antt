@@ -1,9 +1,9 @@
 -- An enum by its parts.
+use Rattle.hir_presence.specs.Presence.{special_methods}
 use Rattle.std.specs.Prelude.{ℕ, List, Option, option_map}
 use Rattle.bridge_decl.specs.declared.enums.Enum.{Enum}
 use Rattle.hir_attrs.specs.declared.attrs.Attrs.{Attrs}
 use Rattle.hir_backends.specs.Backend.{Backend}
-use Rattle.hir_definitions.specs.SpecialMethods.{no_special_methods}
 use Rattle.hir_definitions.specs.Usage.{unused}
 use Rattle.hir_definitions.specs.declared.definitions.EnumDef.{EnumDef}
 use Rattle.hir_definitions.specs.declared.definitions.EnumVariant.{EnumVariant}
@@ -30,6 +30,6 @@ defined_enum notes own methods =
       variants = own.variants;
       methods = methods;
       attrs = notes.attrs;
-      special_method_presence = no_special_methods;
+      special_method_presence = special_methods methods;
       usage = unused;
     }

@@ -1,7 +1,7 @@
 -- An opaque by its parts.
+use Rattle.hir_presence.specs.Presence.{special_methods}
 use Rattle.std.specs.Prelude.{ℕ, List, Option, option_map}
 use Rattle.bridge_decl.specs.declared.structs.OpaqueType.{OpaqueType}
-use Rattle.hir_definitions.specs.SpecialMethods.{no_special_methods}
 use Rattle.hir_definitions.specs.Usage.{unused}
 use Rattle.hir_definitions.specs.declared.definitions.OpaqueDef.{OpaqueDef}
 use Rattle.hir_definitions.specs.declared.methods.Method.{Method}
@@ -28,7 +28,7 @@ defined_opaque notes own methods =
       methods = methods;
       attrs = notes.attrs;
       lifetimes = own.title.lifetimes;
-      special_method_presence = no_special_methods;
+      special_method_presence = special_methods methods;
       dtor_abi_name = own.dtor_abi_name;
       usage = unused;
     }

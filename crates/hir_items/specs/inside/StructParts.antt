@@ -1,8 +1,8 @@
 -- A struct by its parts.
+use Rattle.hir_presence.specs.Presence.{special_methods}
 use Rattle.std.specs.Prelude.{ℕ, List, Option, option_map, Result, Ok, Err}
 use Rattle.bridge_decl.specs.declared.structs.Struct.{Struct}
 use Rattle.hir_attrs.specs.declared.attrs.Attrs.{Attrs}
-use Rattle.hir_definitions.specs.SpecialMethods.{no_special_methods}
 use Rattle.hir_definitions.specs.Usage.{unused}
 use Rattle.hir_definitions.specs.declared.definitions.StructDef.{StructDef}
 use Rattle.hir_definitions.specs.declared.definitions.StructField.{StructField}
@@ -48,7 +48,7 @@ module _ {P C O I S T : Type 0} where
         methods = methods;
         attrs = notes.attrs;
         lifetimes = own.title.lifetimes;
-        special_method_presence = no_special_methods;
+        special_method_presence = special_methods methods;
         usage = unused;
       }
 

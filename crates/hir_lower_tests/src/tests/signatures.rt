@@ -14,7 +14,12 @@ use hir_types::{Callback, CallbackParam, HirType, ReturnType, SuccessType, TyPos
 use std::alloc::Global;
 
 /// Adds a word and a number.
-fn put_number(alloc: Global, text: &mut String, word: &str, number: usize) -> Result<(), NoMemory> {
+pub fn put_number(
+    alloc: Global,
+    text: &mut String,
+    word: &str,
+    number: usize,
+) -> Result<(), NoMemory> {
     text.push_str(word)?;
     text.push_str(number.to_string(alloc)?.as_str())
 }
@@ -136,7 +141,7 @@ pub fn put_docs(text: &mut String, docs: &Docs) -> Result<(), NoMemory> {
 }
 
 /// Adds what comes of success.
-fn put_success<P: TyPosition>(
+pub fn put_success<P: TyPosition>(
     alloc: Global,
     text: &mut String,
     success: &SuccessType<P>,

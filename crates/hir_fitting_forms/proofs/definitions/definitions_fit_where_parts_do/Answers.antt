@@ -1,5 +1,5 @@
 use Rattle.hir_mentions.specs.Callbacks.{field_mentions, output_mentions}
-use Rattle.hir_fitting_forms.proofs.Whole.{special_whole, struct_whole, trait_whole, type_whole, used_whole}
+use Rattle.hir_fitting_forms.proofs.Whole.{struct_whole, trait_whole, type_whole, used_whole}
 use Rattle.hir_fitting_forms.proofs.definitions.definitions_fit_where_parts_do.Goals as goal
 
 pub returns-clause-types : goal.returns-clause-types
@@ -7,9 +7,6 @@ returns-clause-types c = λ census methods all. type_whole census methods all
 
 pub returns-clause-used : goal.returns-clause-used
 returns-clause-used c = λ census methods special before after h all. used_whole census methods special before after h all
-
-pub returns-clause-special : goal.returns-clause-special
-returns-clause-special c = λ census methods before after usage h all. special_whole census methods before after usage h all
 
 pub returns-clause-structs : goal.returns-clause-structs
 returns-clause-structs c = λ census def fields all. struct_whole census field_mentions def fields all
