@@ -14,7 +14,6 @@ use Rattle.bridge_report.specs.Callables.{Callable, CallableInput}
 use Rattle.bridge_report.specs.InContext.{callable_of, callable_inputs, outline, param_input, receiver_input, receiver_name, type_callable}
 use Rattle.bridge_report.specs.declared.report.CallableId.{CallableId}
 use Rattle.bridge_report.specs.declared.report.CallableId.TheVariants as callable
-use Rattle.hir_attrs.specs.declared.attrs.Attrs.{Attrs}
 use Rattle.hir_context.specs.declared.parts.Definitions.{Definitions}
 use Rattle.hir_definitions.specs.declared.methods.Method.{Method}
 use Rattle.hir_definitions.specs.declared.methods.Param.{Param}
@@ -206,7 +205,7 @@ module _ (it : Interface) (defs : Definitions)
       function_found (Some (owner, item.Enum declared)) read found = absurd found
       function_found (Some (owner, item.Trait declared)) read found = absurd found
       function_found (Some (owner, item.Function declared)) read found =
-          function_here owner declared m.attrs.disable refl (sym (ap (λ (marks : Attrs). marks.disable) found.marks_are)) read found
+          function_here owner declared m.attrs.disable refl (sym found.disabled_so) read found
 
       pub function_same : IsFunctionRead it (fields_in defs) m place → IsFoundFunction it place (found_at it.modules place) m
           → by_path defs (path_of_place it.modules place) k m ≡ where_any (found_function_callable it k place) (found_at it.modules place)

@@ -63,9 +63,9 @@ IsNamedMethod m method = IsNamed m method.name method.self_param (without_writer
 abbrev pub IsNamedFunction : Method → Function → Type 0
 IsNamedFunction m function = IsNamed m function.name None (without_writer function.params)
 
--- it has these marks, and unless they disable it the declared names
+-- these marks disable it or not, and unless they do it has the declared names
 pub record IsMarkedFunction (m : Method) (marks : Attrs) (function : Function) : Type 0 where
-  pub marks_are : m.attrs ≡ marks
+  pub disabled_so : m.attrs.disable ≡ marks.disable
   pub named : marks.disable ≡ false → IsNamedFunction m function
 
 true_false : true ≡ false → ⊥
@@ -150,15 +150,15 @@ module _ (catalog : Catalog) (backend : Backend) (names : Naming) where
       method.lifetime_env method.return_type (method_uses names method) (method_breaches names place method) (receiver_there names place method)
       (lifetime_errors method.lifetime_env) (signature_numbers method.lifetime_env (method_uses names method)))
 
-  whole_marks : (attrs : Attrs) (heading : Heading) (ps : List DeclaredParam) (o : Option SignatureTypes) → IfSome (option_map (whole attrs heading None ps None) o) (λ m. m.attrs ≡ attrs)
+  whole_marks : (attrs : Attrs) (heading : Heading) (ps : List DeclaredParam) (o : Option SignatureTypes) → IfSome (option_map (whole attrs heading None ps None) o) (λ m. m.attrs.disable ≡ attrs.disable)
   whole_marks attrs heading ps None = tt
   whole_marks attrs heading ps (Some types) = refl
 
-  unless_disabled : (marks : Attrs) (heading : Heading) (function : Function) (b : Bool) → marks.disable ≡ b → (o : Option Method) → IfSome o (λ m. m.attrs ≡ marks) → IfSome o (λ m. IsNamedFunction m function)
+  unless_disabled : (marks : Attrs) (heading : Heading) (function : Function) (b : Bool) → marks.disable ≡ b → (o : Option Method) → IfSome o (λ m. m.attrs.disable ≡ marks.disable) → IfSome o (λ m. IsNamedFunction m function)
       → IfSome (if b then Some (disabled_form marks heading) else o) (λ m. IsMarkedFunction m marks function)
-  unless_disabled marks heading function true is o marked named = record { marks_are = refl; named = λ so. absurd (true_false (sym is ∙ so)) }
+  unless_disabled marks heading function true is o marked named = record { disabled_so = refl; named = λ so. absurd (true_false (sym is ∙ so)) }
   unless_disabled marks heading function false is None marked named = tt
-  unless_disabled marks heading function false is (Some m) marked named = record { marks_are = marked; named = λ so. named }
+  unless_disabled marks heading function false is (Some m) marked named = record { disabled_so = marked; named = λ so. named }
 
   pub function_named : (parent : Attrs) (function : Function) → IfSome (function_form backend catalog names parent function) (λ m. IsMarkedFunction m (marks_of backend function.attrs parent) function)
   function_named parent function =

@@ -1,6 +1,6 @@
 -- What a type keeps of its special methods names what is there, where its methods do.
 use Rattle.std.proofs.Common.{ℕ, List, [], ◌∷◌, Bool, true, false, Option, Some, None, sym, subst}
-use Rattle.std.specs.Prelude.{IfSome, cond, option_and_then}
+use Rattle.std.specs.Prelude.{IfSome, cond, option_and_then, option_map}
 use Rattle.std.specs.List.{All, find}
 use Rattle.std.proofs.lemmas.List.Elements.{All-append, All-cons, All-head, All-nil, All-tail}
 use Rattle.hir_definitions.specs.declared.methods.Method.{Method}
@@ -17,16 +17,15 @@ use Rattle.hir_mentions.specs.Definitions.{opaque_alone, special_mentions}
 use Rattle.hir_mentions.specs.Mentions.{Mentioned, borrow_mentions, opaque_mention, where_any}
 use Rattle.hir_mentions.specs.Types.{mentions_step, returnable_mentions}
 use Rattle.hir_presence.specs.Presence.{first_marked, is_lone, special_methods}
-use Rattle.hir_presence.specs.Stepping.{Stepped, given_opaque, opaque_layer, step_value, there_layer, value_there}
+use Rattle.hir_presence.specs.Stepping.{given_opaque, opaque_layer, there_layer, value_there}
 use Rattle.hir_presence.specs.declared.marked.LoneSpecial.{LoneSpecial}
 use Rattle.hir_presence.specs.declared.marked.LoneSpecial.TheVariants as lone
-use Rattle.hir_types.specs.Named.{Returned, ReturnedType}
+use Rattle.hir_types.specs.Named.{ReturnedType, Success}
 use Rattle.hir_types.specs.Returns.{success_of, type_in}
 use Rattle.hir_types.specs.declared.callbacks.NoCallback.{NoCallback}
 use Rattle.hir_types.specs.declared.paths.NoTraitPath.{NoTraitPath}
 use Rattle.hir_types.specs.declared.paths.ReturnableStructPath.{ReturnableStructPath}
 use Rattle.hir_types.specs.declared.positions.OutputOnly.{OutputOnly}
-use Rattle.hir_types.specs.declared.returns.ReturnType.TheVariants as returned
 use Rattle.hir_types.specs.declared.returns.SuccessType.TheVariants as success
 use Rattle.hir_types.specs.declared.types.HirType.{out-HirType, out-roll-HirType, roll-HirType}
 use Rattle.hir_types.specs.declared.types.HirType.TheOpen.{HirType-F}
@@ -91,17 +90,12 @@ module _ (census : Census) where
 
   -- ---- what a method gives
 
-  value_fits : (s : Stepped) → All Free (where_any output_mentions (type_in s)) → All Free (where_any output_mentions (type_in (value_there s)))
+  value_fits : (s : Success) → All Free (where_any output_mentions (type_in s)) → All Free (where_any output_mentions (type_in (value_there s)))
   value_fits (success.OutType t) h = type_there t h
   value_fits (success.Write w) h = h
   value_fits success.Unit h = h
 
-  step_fits : (r : Returned) → All Free (where_any output_mentions (type_in (success_of r))) → All Free (where_any (λ s. where_any output_mentions (type_in s)) (step_value r))
-  step_fits (returned.Nullable s) h = h
-  step_fits (returned.Infallible s) h = value_fits s h
-  step_fits (returned.Fallible s e) h = All-nil Free
-
-  opaque_fits : (s : Stepped) → All Free (where_any output_mentions (type_in s)) → All Free (where_any opaque_alone (given_opaque s))
+  opaque_fits : (s : Success) → All Free (where_any output_mentions (type_in s)) → All Free (where_any opaque_alone (given_opaque s))
   opaque_fits (success.OutType t) h = type_opaque t h
   opaque_fits (success.Write w) h = All-nil Free
   opaque_fits success.Unit h = All-nil Free
@@ -116,10 +110,15 @@ module _ (census : Census) where
   where_kept names kept fits None h = All-nil Free
   where_kept names kept fits (Some m) h = fits m h
 
+  where_made : {B : Type 0} (names : B → List Mentioned) (made : Method → B) → ((m : Method) → Good m → All Free (names (made m))) → (m : Option Method) → IfSome m Good
+      → All Free (where_any names (option_map made m))
+  where_made names made fits None h = All-nil Free
+  where_made names made fits (Some m) h = fits m h
+
   pub special_fit : (methods : List Method) → All Good methods → PartFits census (free (special_mentions (special_methods methods)))
   special_fit methods all =
       let one : (it : LoneSpecial) → IfSome (first_marked it methods) Good = λ it. found_holds Good (λ m. is_lone it m.attrs.special_method) methods all in
-      All-append Free (where_any (λ s. where_any output_mentions (type_in s)) (option_and_then (λ m. step_value m.output) (first_marked lone.Iterator methods)))
+      All-append Free (where_any (λ s. where_any output_mentions (type_in s)) (option_map (λ m. value_there (success_of m.output)) (first_marked lone.Iterator methods)))
       (where_any opaque_alone (option_and_then (λ m. given_opaque (success_of m.output)) (first_marked lone.Iterable methods)))
-      (where_kept (λ s. where_any output_mentions (type_in s)) (λ m. step_value m.output) (λ m h. step_fits m.output (given_fits census m h)) (first_marked lone.Iterator methods) (one lone.Iterator))
+      (where_made (λ s. where_any output_mentions (type_in s)) (λ m. value_there (success_of m.output)) (λ m h. value_fits (success_of m.output) (given_fits census m h)) (first_marked lone.Iterator methods) (one lone.Iterator))
       (where_kept opaque_alone (λ m. given_opaque (success_of m.output)) (λ m h. opaque_fits (success_of m.output) (given_fits census m h)) (first_marked lone.Iterable methods) (one lone.Iterable))

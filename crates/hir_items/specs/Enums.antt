@@ -1,5 +1,4 @@
 -- A declared enum: what is told of it, and what it is lowered to.
-use Rattle.hir_presence.specs.Presence.{special_methods}
 use Rattle.std.specs.Prelude.{ℕ, List, ◌++◌, Option, option_map}
 use Rattle.bridge_ast.specs.declared.place.ItemPlace.{ItemPlace}
 use Rattle.bridge_decl.specs.declared.enums.Enum.{Enum}
@@ -13,6 +12,7 @@ use Rattle.hir_fields.specs.Variants.{variants_errors, variants_form}
 use Rattle.hir_heads.specs.Heads.{notes_errors}
 use Rattle.hir_heads.specs.Names.{name_errors}
 use Rattle.hir_mark_contexts.specs.declared.contexts.MarkContext.TheVariants as marked
+use Rattle.hir_presence.specs.Presence.{special_methods}
 use Rattle.hir_reports.specs.declared.report.LoweringError.{LoweringError}
 use Rattle.hir_reports.specs.declared.report.LoweringReport.{LoweringReport}
 use Rattle.hir_items.specs.Inheriting.{item_marks, item_start}

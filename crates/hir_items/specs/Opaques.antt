@@ -1,5 +1,4 @@
 -- A declared opaque: what is told of it, and what it is lowered to.
-use Rattle.hir_presence.specs.Presence.{special_methods}
 use Rattle.std.specs.Prelude.{ℕ, List, [], ◌∷◌, ◌++◌, length, Option, option_map, nat_lt, if◌then◌else◌}
 use Rattle.bridge_ast.specs.declared.place.ItemPlace.{ItemPlace}
 use Rattle.bridge_decl.specs.declared.lifetimes.LifetimeEnv.{LifetimeEnv}
@@ -15,6 +14,7 @@ use Rattle.hir_heads.specs.Heads.{lifetime_errors, notes_errors}
 use Rattle.hir_heads.specs.Names.{name_errors}
 use Rattle.hir_life.specs.Declarations.{declared_environment}
 use Rattle.hir_mark_contexts.specs.declared.contexts.MarkContext.TheVariants as marked
+use Rattle.hir_presence.specs.Presence.{special_methods}
 use Rattle.hir_reports.specs.Texts.{plain_error}
 use Rattle.hir_reports.specs.declared.report.LoweringError.{LoweringError}
 use Rattle.hir_reports.specs.declared.report.LoweringReport.{LoweringReport}

@@ -1,5 +1,4 @@
 -- A declared struct or out-struct: what is told of it, and what it is lowered to.
-use Rattle.hir_presence.specs.Presence.{special_methods}
 use Rattle.std.specs.Prelude.{ℕ, List, [], ◌∷◌, ◌++◌, Option, Some, if◌then◌else◌}
 use Rattle.bridge_ast.specs.declared.place.ItemPlace.{ItemPlace}
 use Rattle.bridge_decl.specs.declared.methods.Method.{Method as DeclaredMethod}
@@ -20,6 +19,7 @@ use Rattle.hir_ids.specs.declared.owners.Borrow.{Borrow}
 use Rattle.hir_ids.specs.declared.owners.MaybeOwn.{MaybeOwn}
 use Rattle.hir_life.specs.Declarations.{declared_environment}
 use Rattle.hir_mark_contexts.specs.declared.contexts.MarkContext.TheVariants as marked
+use Rattle.hir_presence.specs.Presence.{special_methods}
 use Rattle.hir_reports.specs.Texts.{plain_error}
 use Rattle.hir_reports.specs.declared.report.LoweringError.{LoweringError}
 use Rattle.hir_reports.specs.declared.report.LoweringReport.{LoweringReport}

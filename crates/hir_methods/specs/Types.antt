@@ -19,6 +19,7 @@ use Rattle.hir_number.specs.declared.signature.NumberedSignature.{NumberedSignat
 use Rattle.hir_reports.specs.declared.report.LoweringError.{LoweringError}
 use Rattle.hir_signatures.specs.Stages.{Stage, Breached, Misnamed, Unnumbered, Judged, stage_errors, types_form}
 use Rattle.hir_signatures.specs.declared.signatures.SignatureTypes.{SignatureTypes}
+use Rattle.hir_special.specs.Partial.{with_partial}
 use Rattle.hir_stages.specs.Given.{function_stage, method_stage}
 use Rattle.hir_types.specs.declared.self_types.SelfType.{SelfType}
 use Rattle.hir_methods.specs.Joining.{completed}
@@ -65,7 +66,7 @@ typed_param param ty = record { name = param.name; ty = ty; attrs = param.attrs 
 abbrev pub typed_receiver : SelfType → Attrs → ParamSelf
 typed_receiver ty attrs = record { ty = ty; attrs = attrs }
 
--- a method or a function of these parts
+-- a method or a function of these parts: by its return a comparison's mark says whether it is partial
 abbrev pub whole_of : Attrs → Heading → Option Attrs → List UntypedParam → SignatureTypes → Method
 whole_of attrs heading receiver params it =
     record {
@@ -76,7 +77,7 @@ whole_of attrs heading receiver params it =
       param_self = both_given typed_receiver it.types.param_self receiver;
       params = completed typed_param params it.types.params;
       output = it.types.output;
-      attrs = attrs;
+      attrs = with_partial it.types.output attrs;
     }
 
 -- ---- the answer

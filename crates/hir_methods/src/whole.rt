@@ -16,6 +16,7 @@ use hir_definitions::{Method, Param, ParamSelf};
 use hir_ids::Ident;
 use hir_life::LifetimeEnv;
 use hir_signatures::SignatureTypes;
+use hir_special::with_partial;
 use hir_types::{HirType, InputOnly, OutputOnly, ReturnType, SelfType};
 use std::alloc::Global;
 
@@ -118,6 +119,7 @@ fn join_types(
         params,
     } = untyped;
     let SignatureTypes { types, lifetimes } = it;
+    let attrs = with_partial(attrs, &types.output);
     let frame = Frame {
         heading,
         attrs,

@@ -1,15 +1,16 @@
 //! Which special methods a type has.
 
-ghost use Rattle.std.specs.Prelude.{◌≡◌, IfOk, option_and_then, option_copied};
+ghost use Rattle.std.specs.Prelude.{◌≡◌, IfOk, option_and_then, option_copied, option_map};
 ghost use Rattle.hir_types.specs.Returns.{success_of};
 ghost use Rattle.hir_presence.specs.Presence.{compares_partially, special_methods};
-ghost use Rattle.hir_presence.specs.Stepping.{given_opaque, step_value};
+ghost use Rattle.hir_presence.specs.Stepping.{given_opaque, value_there};
 
 use crate::marked::{LoneSpecial, first_marked};
-use crate::stepping::{given_opaque, gives_option, step_value};
+use crate::stepping::{given_opaque, value_there};
 use bridge_decl::NoMemory;
 use hir_definitions::{Method, SpecialMethodPresence};
 use hir_ids::OpaqueId;
+use hir_special::is_partial;
 use hir_types::{OutputOnly, SuccessType};
 use std::alloc::Global;
 
@@ -18,21 +19,21 @@ fn compares_partially(comparison: Option<&Method>) -> bool
     ensures { result ≡ compares_partially (option_copied comparison.entry) }
 {
     match comparison {
-        Some(method) => gives_option(&method.output),
+        Some(method) => is_partial(&method.output),
         None => false,
     }
 }
 
-/// What an iterator gives at each step.
+/// What an iterator gives at each step, where it gives anything.
 fn iterator_of(
     alloc: Global,
     iterator: Option<&Method>,
 ) -> Result<Option<SuccessType<OutputOnly>>, NoMemory>
     ensures { IfOk result (λ value. value
-        ≡ option_and_then (λ m. step_value m.output) (option_copied iterator.entry)) }
+        ≡ option_map (λ m. value_there (success_of m.output)) (option_copied iterator.entry)) }
 {
     match iterator {
-        Some(method) => step_value(alloc, &method.output),
+        Some(method) => Ok(Some(value_there(alloc, method.output.success_type())?)),
         None => Ok(None),
     }
 }

@@ -189,17 +189,18 @@ module _ (catalog : Catalog) where
         (keeps_params method.lifetime_env (without_writer method.params) method.return_type (method_uses names method) method.self_param)
         (method_breaches names place method) (lifetime_errors method.lifetime_env) (signature_numbers method.lifetime_env (method_uses names method)))
 
-    whole_marks : (attrs : Attrs) (heading : Heading) (marks : Option Attrs) (ps : List DeclaredParam) (o : Option SignatureTypes) → IfSome (option_map (whole_of attrs heading marks (untyped_forms backend ps)) o) (λ m. m.attrs ≡ attrs)
+    whole_marks : (attrs : Attrs) (heading : Heading) (marks : Option Attrs) (ps : List DeclaredParam) (o : Option SignatureTypes)
+        → IfSome (option_map (whole_of attrs heading marks (untyped_forms backend ps)) o) (λ m. m.attrs.disable ≡ attrs.disable)
     whole_marks attrs heading marks ps None = tt
     whole_marks attrs heading marks ps (Some types) = refl
 
     unless_disabled : (attrs : Attrs) (heading : Heading) (declared : Option NumberedSignature) (b : Bool) → attrs.disable ≡ b
-        → (o : Option Method) → IfSome o (λ m. m.attrs ≡ attrs) → IfSome o (λ m. HasDeclared catalog m declared)
+        → (o : Option Method) → IfSome o (λ m. m.attrs.disable ≡ attrs.disable) → IfSome o (λ m. HasDeclared catalog m declared)
         → IfSome (if b then Some (disabled_form attrs heading) else o) (λ m. HasFunction catalog m declared)
     unless_disabled attrs heading declared true is o marked has = record { enabled = λ not. absurd (true_false (sym is ∙ not)); disabled = λ so. refl }
     unless_disabled attrs heading declared false is None marked has = tt
     unless_disabled attrs heading declared false is (Some m) marked has =
-        record { enabled = λ so. has; disabled = λ so. absurd (true_false (sym so ∙ ap (λ (a : Attrs). a.disable) marked ∙ is)) }
+        record { enabled = λ so. has; disabled = λ so. absurd (true_false (sym so ∙ marked ∙ is)) }
 
     pub function_has : (parent : Attrs) (function : Function) → IfSome (function_form backend catalog names parent function) (λ m. HasFunction catalog m (function_signature names function))
     function_has parent function =

@@ -6,7 +6,7 @@ use Rattle.hir_ids.specs.declared.ids.TypeId.{TypeId}
 use Rattle.hir_ids.specs.declared.ids.TypeId.TheVariants as type
 use Rattle.hir_ids.specs.declared.owners.MaybeOwn.{MaybeOwn}
 use Rattle.hir_ids.specs.declared.primitives.PrimitiveType.TheVariants as primitive
-use Rattle.hir_types.specs.Named.{Returned, ReturnedType}
+use Rattle.hir_types.specs.Named.{Returned, ReturnedType, Success}
 use Rattle.hir_types.specs.Paths.{returnable_id}
 use Rattle.hir_types.specs.Returns.{success_of}
 use Rattle.hir_types.specs.Types.{type_id}
@@ -15,15 +15,10 @@ use Rattle.hir_types.specs.declared.paths.NoTraitPath.{NoTraitPath}
 use Rattle.hir_types.specs.declared.paths.ReturnableStructPath.{ReturnableStructPath}
 use Rattle.hir_types.specs.declared.positions.OutputOnly.{OutputOnly}
 use Rattle.hir_types.specs.declared.returns.ReturnType.TheVariants as returned
-use Rattle.hir_types.specs.declared.returns.SuccessType.{SuccessType}
 use Rattle.hir_types.specs.declared.returns.SuccessType.TheVariants as success
 use Rattle.hir_types.specs.declared.types.HirType.{out-HirType}
 use Rattle.hir_types.specs.declared.types.HirType.TheOpen.{HirType-F}
 use Rattle.hir_types.specs.declared.writers.WriteType.TheVariants as writer
-
--- what comes of success
-abbrev pub Success : Type 0
-Success = SuccessType OutputOnly NoCallback MaybeOwn ℕ ReturnableStructPath NoTraitPath
 
 -- ---- what a value is
 

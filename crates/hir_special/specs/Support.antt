@@ -9,17 +9,12 @@ use Rattle.hir_backends.specs.declared.support.flag.SupportFlag.TheVariants as f
 use Rattle.hir_definitions.specs.declared.methods.ParamSelf.{ParamSelf}
 use Rattle.hir_types.specs.Named.{Returned}
 use Rattle.hir_types.specs.declared.returns.ReturnType.TheVariants as returned
-use Rattle.hir_special.specs.Returns.{is_ordering}
+use Rattle.hir_special.specs.Partial.{is_partial}
 
 -- it returns a value or an error
 abbrev pub may_fail : Returned → Bool
 may_fail (returned.Fallible s e) = true
 may_fail _ = false
-
--- it may say that neither of two values comes first
-abbrev pub is_partial : Returned → Bool
-is_partial (returned.Nullable s) = is_ordering s
-is_partial _ = false
 
 -- one, where it is needed and off
 abbrev pub unless_on : BackendAttrSupport → Bool → SupportFlag → Option SupportFlag

@@ -35,11 +35,13 @@
 #![tactic(auto)]
 
 mod operands;
+mod partial;
 mod receivers;
 mod repeated;
 mod returns;
 mod support;
 mod testing;
 
+pub use partial::{is_partial, with_partial};
 pub use repeated::{SeenSpecials, test_repeated};
 pub use testing::validate_special;

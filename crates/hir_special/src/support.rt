@@ -1,9 +1,9 @@
 //! What a special method needs of a backend.
 
 ghost use Rattle.std.specs.Prelude.{◌≡◌};
-ghost use Rattle.hir_special.specs.Support.{is_partial, may_fail, missing_flag, unless_on};
+ghost use Rattle.hir_special.specs.Support.{may_fail, missing_flag, unless_on};
 
-use crate::returns::is_ordering;
+use crate::partial::is_partial;
 use hir_attrs::SpecialKind;
 use hir_backends::{BackendAttrSupport, SupportFlag};
 use hir_definitions::ParamSelf;
@@ -14,16 +14,6 @@ fn may_fail(output: &ReturnType<OutputOnly>) -> bool
     ensures { result ≡ may_fail output.now }
 {
     matches!(output, ReturnType::Fallible(_, _))
-}
-
-/// Whether it may say that neither of two values comes first.
-fn is_partial(output: &ReturnType<OutputOnly>) -> bool
-    ensures { result ≡ is_partial output.now }
-{
-    match output {
-        ReturnType::Nullable(success) => is_ordering(success),
-        _ => false,
-    }
 }
 
 /// The flag, where it is needed and off.

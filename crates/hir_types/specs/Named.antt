@@ -15,11 +15,16 @@ use Rattle.hir_types.specs.declared.paths.NoTraitPath.{NoTraitPath}
 use Rattle.hir_types.specs.declared.paths.ReturnableStructPath.{ReturnableStructPath}
 use Rattle.hir_types.specs.declared.positions.OutputOnly.{OutputOnly}
 use Rattle.hir_types.specs.declared.returns.ReturnType.{ReturnType}
+use Rattle.hir_types.specs.declared.returns.SuccessType.{SuccessType}
 use Rattle.hir_types.specs.declared.types.HirType.{HirType}
 
 -- the types and returns of methods
 abbrev pub ReturnedType : Type 0
 ReturnedType = HirType OutputOnly NoCallback MaybeOwn ℕ ReturnableStructPath NoTraitPath
+
+-- what comes of success
+abbrev pub Success : Type 0
+Success = SuccessType OutputOnly NoCallback MaybeOwn ℕ ReturnableStructPath NoTraitPath
 
 abbrev pub Returned : Type 0
 Returned = ReturnType OutputOnly NoCallback MaybeOwn ℕ ReturnableStructPath NoTraitPath

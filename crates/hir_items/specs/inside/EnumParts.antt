@@ -1,5 +1,4 @@
 -- An enum by its parts.
-use Rattle.hir_presence.specs.Presence.{special_methods}
 use Rattle.std.specs.Prelude.{ℕ, List, Option, option_map}
 use Rattle.bridge_decl.specs.declared.enums.Enum.{Enum}
 use Rattle.hir_attrs.specs.declared.attrs.Attrs.{Attrs}
@@ -11,6 +10,7 @@ use Rattle.hir_definitions.specs.declared.methods.Method.{Method}
 use Rattle.hir_fields.specs.Variants.{variants_form}
 use Rattle.hir_heads.specs.declared.notes.Notes.{Notes}
 use Rattle.hir_methods.specs.Choosing.{paired}
+use Rattle.hir_presence.specs.Presence.{special_methods}
 use Rattle.hir_items.specs.declared.enums.EnumOwn.{EnumOwn}
 
 -- a name with variants, where there are both

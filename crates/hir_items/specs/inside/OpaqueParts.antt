@@ -1,5 +1,4 @@
 -- An opaque by its parts.
-use Rattle.hir_presence.specs.Presence.{special_methods}
 use Rattle.std.specs.Prelude.{ℕ, List, Option, option_map}
 use Rattle.bridge_decl.specs.declared.structs.OpaqueType.{OpaqueType}
 use Rattle.hir_definitions.specs.Usage.{unused}
@@ -7,6 +6,7 @@ use Rattle.hir_definitions.specs.declared.definitions.OpaqueDef.{OpaqueDef}
 use Rattle.hir_definitions.specs.declared.methods.Method.{Method}
 use Rattle.hir_heads.specs.declared.notes.Notes.{Notes}
 use Rattle.hir_methods.specs.Choosing.{paired}
+use Rattle.hir_presence.specs.Presence.{special_methods}
 use Rattle.hir_items.specs.declared.heads.Title.{Title}
 use Rattle.hir_items.specs.declared.opaques.OpaqueOwn.{OpaqueOwn}
 use Rattle.hir_items.specs.inside.Titles.{title_form}

@@ -1,5 +1,4 @@
 -- A struct by its parts.
-use Rattle.hir_presence.specs.Presence.{special_methods}
 use Rattle.std.specs.Prelude.{ℕ, List, Option, option_map, Result, Ok, Err}
 use Rattle.bridge_decl.specs.declared.structs.Struct.{Struct}
 use Rattle.hir_attrs.specs.declared.attrs.Attrs.{Attrs}
@@ -12,6 +11,7 @@ use Rattle.hir_heads.specs.declared.notes.Notes.{Notes}
 use Rattle.hir_ids.specs.declared.owners.Borrow.{Borrow}
 use Rattle.hir_ids.specs.declared.owners.MaybeOwn.{MaybeOwn}
 use Rattle.hir_methods.specs.Choosing.{paired}
+use Rattle.hir_presence.specs.Presence.{special_methods}
 use Rattle.hir_types.specs.declared.callbacks.NoCallback.{NoCallback}
 use Rattle.hir_types.specs.declared.paths.NoTraitPath.{NoTraitPath}
 use Rattle.hir_types.specs.declared.paths.ReturnableStructPath.{ReturnableStructPath}

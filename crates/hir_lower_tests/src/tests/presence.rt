@@ -5,26 +5,27 @@ use crate::tests::backends::ALL;
 use crate::tests::compare_found;
 use crate::tests::signatures::{put_number, put_success};
 use bridge_decl::NoMemory;
-use hir_definitions::SpecialMethodPresence;
+use hir_attrs::SpecialMethod;
+use hir_definitions::{Method, SpecialMethodPresence};
 use hir_lower::TypeContext;
 use std::alloc::Global;
 use std::process::Abort;
 use std::test::Fail;
 
 /// Declarations, and which special methods each type has: `comparison` or `partial comparison`, what it gives at each step, and the
-/// opaque that it is iterable by.
+/// opaque that it is iterable by. Behind them its methods that are marked as comparisons, and whether their mark says that they are partial.
 const ROWS: [(&str, &str); 9] = [
     (
         "opaque O impl { #comparison fn cmp(&self, other: &O) -> Option<Ordering> }",
-        "O partial comparison",
+        "O partial comparison, partial cmp",
     ),
     (
         "opaque O impl { #comparison fn cmp(&self, other: &O) -> Ordering }",
-        "O comparison",
+        "O comparison, cmp",
     ),
     (
         "#abi_compatible enum E { A=0 } impl { #comparison fn cmp(self, other: E) -> Ordering }",
-        "E comparison",
+        "E comparison, cmp",
     ),
     (
         "@mutable opaque A impl { #iterator fn next(&mut self) -> Option<u8> }",
@@ -45,7 +46,7 @@ const ROWS: [(&str, &str); 9] = [
     ),
     (
         "opaque A impl { #comparison fn cmp(&self, x: &A) -> Ordering fn m(&self) #iterable fn iter(&self) -> Box<A> #iterator fn next(&self) -> Option<u8> }",
-        "A comparison steps value iterable by 0",
+        "A comparison steps value iterable by 0, cmp",
     ),
     // Other marks, and methods that are disabled.
     (
@@ -83,12 +84,26 @@ fn put_presence(
     }
 }
 
+/// Adds the method, where it is marked as a comparison.
+fn put_comparison(text: &mut String, method: &Method) -> Result<(), NoMemory> {
+    match &method.attrs.special_method {
+        Some(SpecialMethod::Comparison(partial)) => {
+            text.push_str(if *partial { ", partial " } else { ", " })?;
+            text.push_str(method.name.as_str())
+        }
+        _ => Ok(()),
+    }
+}
+
 /// Which special methods all types have.
 fn presences(alloc: Global, tcx: &TypeContext) -> Result<String, NoMemory> {
     let mut text = String::new(alloc);
     for (_id, def) in tcx.all_types() {
         let name = def.name().as_str();
         put_presence(alloc, &mut text, name, def.special_method_presence())?;
+        for method in def.methods() {
+            put_comparison(&mut text, method)?;
+        }
     }
     Ok(text)
 }
