@@ -27,6 +27,16 @@ fn pick() {
 }
 
 #[test]
+fn pick_stands_in_the_page_on_inputs() {
+    let page = include_str!("../../../docs/INPUT.md");
+    let (_, bridge) = include_str!("../../../examples/pick.rs").split_once("#![diplomat::bridge]").expect("it is a bridge");
+    let texts = [bridge, include_str!("../../../examples/pick.json"), include_str!("../../../examples/pick.page")];
+    for text in texts {
+        assert!(page.contains(text.trim()), "the page has {text}");
+    }
+}
+
+#[test]
 fn the_bridge() {
     let besides = example("bridge.besides.json").display().to_string();
     let options = ["--with", &besides, "--symbols", "Formatter_try_new,Locale_destroy"];

@@ -131,9 +131,9 @@ fn quoted(cell: &str) -> Vec<&str> {
 
 #[test]
 fn rows_of_the_documented_table() {
-    let page = include_str!("../../../docs/EXPORT.md");
-    let (_, from_types) = page.split_once("### Types").expect("the page tells of types");
-    let (types, _) = from_types.split_once("### Lifetimes").expect("the page tells of lifetimes after types");
+    let page = include_str!("../../../docs/INPUT.md");
+    let (_, from_types) = page.split_once("## From Rust").expect("the page tells of what is written in Rust");
+    let (types, _) = from_types.split_once("A receiver is no type").expect("the page tells of receivers after types");
     let mut tested = 0;
     for row in types.lines().filter(|line| line.starts_with("| `")) {
         let (rust, as_json) = row.trim_matches(['|', ' ']).split_once(" | ").expect("a row has two cells");
