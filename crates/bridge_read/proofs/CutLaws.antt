@@ -14,18 +14,18 @@ use Rattle.bridge_form.specs.declared.fault.Fault.{Fault}
 use Rattle.bridge_form.specs.declared.keys.Key.{Key}
 use Rattle.bridge_form.specs.declared.keys.Key.TheVariants as key
 use Rattle.bridge_read.specs.Agree.{SaySame, CutsNothing}
-use Rattle.bridge_form.specs.Form.{Form, Parts, Each, each_faults, list, object_faults, object_with, unknown_keys, made, ◌&◌, needs, NeededAt, needed_faults, may_have, OptionalAt, may_be, may_be_by, told, grouped, HeldAt, optional_faults, refined, mapped, word_or, TextOr, text_or, one_of, one_of_faults, never, add_live, live, sole, IsSole, sole_faults, inside_faults, text, flag, two}
+use Rattle.bridge_form.specs.Form.{Form, Parts, Each, each_faults, list, object_faults, object_with, unknown_keys, made, ◌&◌, needs, NeededAt, needed_faults, may_have, OptionalAt, may_be, may_be_by, told, grouped, HeldAt, optional_faults, refined, mapped, word_or, TextOr, text_or, one_of, one_of_faults, never, add_live, live, IsSole, sole_faults, inside_faults, text, flag, two}
 use Rattle.bridge_form.proofs.ChoiceLaws.{one_of_is, sole_read}
 use Rattle.bridge_form.specs.Keys.{key_text}
 use Rattle.bridge_form.specs.Reading.{◌>>=◌, at_key, each_of, entries_of, held_of, inside, needed_of, not_null, only, optional_of, or_wrong_at, under, has_only}
-use Rattle.bridge_read.specs.forms.Attrs.{condition_keys, condition_under, condition_within, condition_word, pair_condition}
-use Rattle.bridge_read.specs.forms.Lifetimes.{lifetime, path}
+use Rattle.bridge_read_parts.specs.forms.Attrs.{condition_keys, condition_under, condition_within, condition_word, pair_condition}
+use Rattle.bridge_read_parts.specs.forms.Lifetimes.{lifetime, path}
 use Rattle.bridge_read.specs.forms.Modules.{any_text, contents, in_a_row, named_module, module_parts, module_within, nested_in, path_in}
-use Rattle.bridge_read.specs.forms.Types.{borrow, callback_of, custom_slice_of, option_type_of, primitive_slice, reference_type_of, result_of, str_list, str_slice, type_keys, type_under, type_within, type_word, writer}
+use Rattle.bridge_read_parts.specs.forms.Types.{borrow, callback_of, custom_slice_of, option_type_of, primitive_slice, reference_type_of, result_of, str_list, str_slice, type_keys, type_under, type_within, type_word, writer}
 use Rattle.bridge_form.proofs.FormLaws.{LawfulParts}
 use Rattle.bridge_form.proofs.PartLaws.{told_lawful, grouped_lawful}
 use Rattle.bridge_read.proofs.forms.Modules.{contents_lawful}
-use Rattle.bridge_read.proofs.forms.Types.{borrow_lawful}
+use Rattle.bridge_read_parts.proofs.forms.Types.{borrow_lawful}
 
 -- ---- how deep what stands under a key nests
 

@@ -15,7 +15,7 @@ use Rattle.bridge_form.specs.Keys.{key_text}
 use Rattle.bridge_read.specs.ModulePlaces.{leads_to, SpellsContents, LeadsTo}
 use Rattle.bridge_pointers.specs.Pointers.{in_entries, in_modules, in_root, items_of, module_pointers, modules_within}
 use Rattle.bridge_form.specs.Reading.{at_key, not_null, under}
-use Rattle.bridge_read.specs.forms.Attrs.{attrs, no_attrs}
+use Rattle.bridge_read_parts.specs.forms.Attrs.{attrs, no_attrs}
 use Rattle.bridge_read.specs.forms.Inputs.{no_backend, whole}
 use Rattle.bridge_read.specs.forms.Items.{item_form}
 use Rattle.bridge_read.specs.forms.Modules.{alias, any_text, contents, in_a_row, module_of, module_within, nested_in, path_in, root}

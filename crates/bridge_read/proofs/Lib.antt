@@ -1,9 +1,7 @@
-pub mod CharLemmas
 pub mod CountLemmas
 pub mod CutLaws
 pub mod InputLaws
 pub mod LeadLemmas
-pub mod ListLemmas
 pub mod ModuleLemmas
 pub mod ParentLemmas
 pub mod SettingLemmas

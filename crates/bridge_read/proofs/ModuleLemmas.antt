@@ -9,7 +9,7 @@ use Rattle.bridge_form.specs.declared.fault.ReadFault.TheVariants.{Bad, NoMemory
 use Rattle.bridge_form.specs.declared.keys.Key.TheVariants as key
 use Rattle.bridge_form.specs.Reading.{◌>>=◌, each_of, needed_of, text_of, under}
 use Rattle.bridge_form.specs.Given.{Stops}
-use Rattle.bridge_read.specs.inside.Taking.{needed}
+use Rattle.bridge_read_parts.specs.Taking.{needed}
 use Rattle.bridge_read.specs.forms.Modules.{any_text, in_a_row, name_of, or_empty}
 
 -- the modules that were read, followed by those that are read of the entries that are left

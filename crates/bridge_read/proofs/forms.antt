@@ -1,9 +1,5 @@
-pub mod Attrs
-pub mod Docs
 pub mod Inputs
 pub mod Items
-pub mod Lifetimes
 pub mod Methods
 pub mod Modules
 pub mod Settings
-pub mod Types

@@ -3,9 +3,9 @@ use Rattle.std.specs.Prelude.{◌≡◌, ℕ, ◌+◌, ◌≤◌, List}
 use Rattle.serde_json.specs.Data.{Data, depth}
 use Rattle.serde_json.specs.Read.{max_depth}
 use Rattle.bridge_form.specs.Form.{Form}
-use Rattle.bridge_read.specs.forms.Attrs.{condition_within}
+use Rattle.bridge_read_parts.specs.forms.Attrs.{condition_within}
 use Rattle.bridge_read.specs.forms.Modules.{nested_in}
-use Rattle.bridge_read.specs.forms.Types.{type_within}
+use Rattle.bridge_read_parts.specs.forms.Types.{type_within}
 
 -- the forms say the same of the value: what it spells, which faults it has, and what is read of it
 pub record SaySame {A : Type 0} (f g : Form A) (d : Data) : Type 0 where

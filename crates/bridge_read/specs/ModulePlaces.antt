@@ -9,7 +9,7 @@ use Rattle.bridge_form.specs.declared.pointer.Step.{Step}
 use Rattle.bridge_form.specs.declared.pointer.Step.TheVariants.{Member, Index}
 use Rattle.bridge_form.specs.Form.{HeldAt, list}
 use Rattle.bridge_form.specs.Reading.{under}
-use Rattle.bridge_read.specs.forms.Attrs.{attrs, no_attrs}
+use Rattle.bridge_read_parts.specs.forms.Attrs.{attrs, no_attrs}
 use Rattle.bridge_read.specs.forms.Items.{item_form}
 use Rattle.bridge_read.specs.forms.Modules.{alias, path_in}
 

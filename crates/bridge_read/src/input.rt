@@ -20,11 +20,12 @@ ghost use Rattle.bridge_read.specs.TruePlaces.{IsPlaced};
 ghost use Rattle.bridge_read.specs.forms.Inputs.{no_backend, whole};
 ghost use Rattle.bridge_read.specs.inside.Answers.{GivesEnv, GivesForm, IsNoJson};
 
+use crate::InputForms;
 use crate::modules::ModuleList;
-use crate::reading::{FromForm, held, needed, read_object};
 use bridge_ast::{Env, EnvFault, EnvFaultKind, EnvPlace, NoMemory, Text};
 use bridge_form::{InputKind, Pointer, Read, ReadFault};
 use bridge_pointers::place_pointer;
+use bridge_read_parts::{FromForm, held, needed, read_object};
 use hir_backends::BasicAttributeValidator;
 use hir_config::LoweringConfig;
 use hir_docs::DocsUrlGenerator;
@@ -87,7 +88,7 @@ fn no_backend(alloc: Global) -> Result<BasicAttributeValidator, NoMemory>
 }
 
 #[tactic(auto, unfolding(crate::specs::forms::Inputs::whole, bridge_form::specs::Left::are_apart, bridge_form::specs::Keys::key_text))]
-impl FromForm for Declared {
+impl FromForm<InputForms> for Declared {
     ghost use Rattle.bridge_read.specs.forms.Inputs.{whole};
 
     ghost form = { whole.read };

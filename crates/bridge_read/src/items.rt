@@ -3,22 +3,23 @@
 ghost use Rattle.serde_json.specs.View.{view};
 ghost use Rattle.bridge_form.specs.Form.{object_with, one_word};
 ghost use Rattle.bridge_form.specs.Given.{Gives};
-ghost use Rattle.bridge_read.specs.inside.Taking.{needed};
+ghost use Rattle.bridge_read_parts.specs.Taking.{needed};
 ghost use Rattle.bridge_words.specs.Words.{item_kind_words};
 ghost use Rattle.bridge_read.specs.forms.Items.{struct_parts, opaque_parts, enum_parts, trait_parts, function_parts};
 
-use crate::docs::documented;
-use crate::lifetimes::mutability;
+use crate::InputForms;
 use crate::methods::{or_name, signed};
-use crate::reading::{FromForm, flag, listed, needed, optional, read_object};
 use bridge_ast::{Enum, Field, Function, Item, LifetimeEnv, OpaqueType, Struct, Trait, Variant};
 use bridge_form::{Key, Read, ReadFault, in_member, object, under};
+use bridge_read_parts::{
+    FromForm, documented, flag, listed, mutability, needed, optional, read_object,
+};
 use bridge_words::{ItemKind, one_word};
 use serde_json::Value;
 use std::alloc::Global;
 
-#[tactic(auto, unfolding(crate::specs::forms::Items::field, crate::specs::forms::Docs::documented, bridge_form::specs::Left::are_apart, bridge_form::specs::Keys::key_text))]
-impl FromForm for Field {
+#[tactic(auto, unfolding(crate::specs::forms::Items::field, bridge_read_parts::specs::forms::Docs::documented, bridge_form::specs::Left::are_apart, bridge_form::specs::Keys::key_text))]
+impl FromForm<InputForms> for Field {
     ghost use Rattle.bridge_read.specs.forms.Items.{field};
 
     ghost form = { field.read };
@@ -32,8 +33,8 @@ impl FromForm for Field {
     }
 }
 
-#[tactic(auto, unfolding(crate::specs::forms::Items::variant, crate::specs::forms::Docs::documented, bridge_form::specs::Left::are_apart, bridge_form::specs::Keys::key_text))]
-impl FromForm for Variant {
+#[tactic(auto, unfolding(crate::specs::forms::Items::variant, bridge_read_parts::specs::forms::Docs::documented, bridge_form::specs::Left::are_apart, bridge_form::specs::Keys::key_text))]
+impl FromForm<InputForms> for Variant {
     ghost use Rattle.bridge_read.specs.forms.Items.{variant};
 
     ghost form = { variant.read };
@@ -48,7 +49,7 @@ impl FromForm for Variant {
 }
 
 /// A struct, or an out-struct.
-#[tactic(auto, unfolding(crate::specs::forms::Docs::documented, bridge_form::specs::Left::are_apart, bridge_form::specs::Keys::key_text))]
+#[tactic(auto, unfolding(bridge_read_parts::specs::forms::Docs::documented, bridge_form::specs::Left::are_apart, bridge_form::specs::Keys::key_text))]
 fn struct_item(alloc: Global, value: Value, output_only: bool) -> Read<Item>
     ensures { Gives result ((object_with (struct_parts output_only)).read (view value)) }
 {
@@ -66,7 +67,7 @@ fn struct_item(alloc: Global, value: Value, output_only: bool) -> Read<Item>
 }
 
 /// An opaque.
-#[tactic(auto, unfolding(crate::specs::forms::Items::opaque_parts, crate::specs::forms::Docs::documented, bridge_form::specs::Left::are_apart, bridge_form::specs::Keys::key_text))]
+#[tactic(auto, unfolding(crate::specs::forms::Items::opaque_parts, bridge_read_parts::specs::forms::Docs::documented, bridge_form::specs::Left::are_apart, bridge_form::specs::Keys::key_text))]
 fn opaque(alloc: Global, value: Value) -> Read<Item>
     ensures { Gives result ((object_with opaque_parts).read (view value)) }
 {
@@ -87,7 +88,7 @@ fn opaque(alloc: Global, value: Value) -> Read<Item>
 }
 
 /// An enum.
-#[tactic(auto, unfolding(crate::specs::forms::Items::enum_parts, crate::specs::forms::Docs::documented, bridge_form::specs::Left::are_apart, bridge_form::specs::Keys::key_text))]
+#[tactic(auto, unfolding(crate::specs::forms::Items::enum_parts, bridge_read_parts::specs::forms::Docs::documented, bridge_form::specs::Left::are_apart, bridge_form::specs::Keys::key_text))]
 fn enum_item(alloc: Global, value: Value) -> Read<Item>
     ensures { Gives result ((object_with enum_parts).read (view value)) }
 {
@@ -101,7 +102,7 @@ fn enum_item(alloc: Global, value: Value) -> Read<Item>
 }
 
 /// A trait.
-#[tactic(auto, unfolding(crate::specs::forms::Items::trait_parts, crate::specs::forms::Docs::documented, bridge_form::specs::Left::are_apart, bridge_form::specs::Keys::key_text))]
+#[tactic(auto, unfolding(crate::specs::forms::Items::trait_parts, bridge_read_parts::specs::forms::Docs::documented, bridge_form::specs::Left::are_apart, bridge_form::specs::Keys::key_text))]
 fn trait_item(alloc: Global, value: Value) -> Read<Item>
     ensures { Gives result ((object_with trait_parts).read (view value)) }
 {
@@ -120,7 +121,7 @@ fn trait_item(alloc: Global, value: Value) -> Read<Item>
 }
 
 /// A function.
-#[tactic(auto, unfolding(crate::specs::forms::Items::function_parts, crate::specs::forms::Methods::signature, crate::specs::forms::Docs::documented, bridge_form::specs::Left::are_apart, bridge_form::specs::Keys::key_text))]
+#[tactic(auto, unfolding(crate::specs::forms::Items::function_parts, crate::specs::forms::Methods::signature, bridge_read_parts::specs::forms::Docs::documented, bridge_form::specs::Left::are_apart, bridge_form::specs::Keys::key_text))]
 fn function(alloc: Global, value: Value) -> Read<Item>
     ensures { Gives result ((object_with function_parts).read (view value)) }
 {
@@ -149,7 +150,7 @@ fn kind_of(alloc: Global, value: &Value) -> Read<ItemKind>
 }
 
 #[tactic(auto, unfolding(crate::specs::forms::Items::item_form))]
-impl FromForm for Item {
+impl FromForm<InputForms> for Item {
     ghost use Rattle.bridge_read.specs.forms.Items.{item_form};
 
     ghost form = { item_form.read };

@@ -17,20 +17,18 @@
 //! environment, and a second item `Locale` of `ffi` is a `duplicate item` at `/root/modules/0/items/1`.
 //!
 //! `bridge_form` takes objects apart, whatever they spell, `bridge_words` has the tables of words, and `bridge_pointers` finds the pointer of a
-//! declaration. Here `reading` has the trait by which parts are read; `lifetimes`, `types`, `attrs`, `docs`, `methods`, `items`, `modules` and
+//! declaration. `bridge_read_parts` has the trait by which parts are read, and reads what declarations are made of; here `methods`, `items`, `modules` and
 //! `settings` read a subject each.
 #![tactic(auto)]
 
-mod attrs;
-mod docs;
 mod input;
 mod items;
-mod lifetimes;
 mod methods;
 mod modules;
-mod reading;
 mod settings;
-mod types;
 
 pub use bridge_form::InputKind;
 pub use input::{Input, InputFault, read_input};
+
+/// The forms of this crate, where `FromForm` asks whose they are.
+pub(crate) struct InputForms;

@@ -6,16 +6,17 @@ ghost use Rattle.bridge_form.specs.declared.keys.Key.{Key as Name};
 ghost use Rattle.bridge_form.specs.Form.{read_alone};
 ghost use Rattle.bridge_read.specs.forms.Methods.{method_head, or_else, signature, trait_signature};
 ghost use Rattle.bridge_form.specs.Left.{IsLeft};
-ghost use Rattle.bridge_read.specs.inside.Taking.{Takes};
+ghost use Rattle.bridge_read_parts.specs.Taking.{Takes};
 
-use crate::attrs::no_attrs;
-use crate::docs::documented;
-use crate::reading::{FromForm, held, listed, needed, optional, read_object};
+use crate::InputForms;
 use bridge_ast::{
     Items, LifetimeEnv, LifetimeNode, Method, NoMemory, Param, PathType, SelfParam, Text,
     TraitMethod, TraitSelfParam, TypeName,
 };
 use bridge_form::{Fields, Key, Read};
+use bridge_read_parts::{
+    FromForm, documented, held, listed, needed, no_attrs, optional, read_object,
+};
 use serde_json::Value;
 use std::alloc::Global;
 
@@ -30,7 +31,7 @@ pub fn or_name(alloc: Global, name: &Text, given: Option<Text>) -> Result<Text, 
 }
 
 #[tactic(auto, unfolding(crate::specs::forms::Methods::param, bridge_form::specs::Left::are_apart, bridge_form::specs::Keys::key_text))]
-impl FromForm for Param {
+impl FromForm<InputForms> for Param {
     ghost use Rattle.bridge_read.specs.forms.Methods.{param};
 
     ghost form = { param.read };
@@ -45,7 +46,7 @@ impl FromForm for Param {
 }
 
 #[tactic(auto, unfolding(crate::specs::forms::Methods::receiver, bridge_form::specs::Left::are_apart, bridge_form::specs::Keys::key_text))]
-impl FromForm for SelfParam {
+impl FromForm<InputForms> for SelfParam {
     ghost use Rattle.bridge_read.specs.forms.Methods.{receiver};
 
     ghost form = { receiver.read };
@@ -116,8 +117,8 @@ fn method_head(alloc: Global, left: &mut Fields) -> Read<MethodHead>
     })
 }
 
-#[tactic(auto, unfolding(crate::specs::forms::Methods::method, crate::specs::forms::Methods::method_head, crate::specs::forms::Methods::signature, crate::specs::forms::Docs::documented, bridge_form::specs::Left::are_apart, bridge_form::specs::Keys::key_text))]
-impl FromForm for Method {
+#[tactic(auto, unfolding(crate::specs::forms::Methods::method, crate::specs::forms::Methods::method_head, crate::specs::forms::Methods::signature, bridge_read_parts::specs::forms::Docs::documented, bridge_form::specs::Left::are_apart, bridge_form::specs::Keys::key_text))]
+impl FromForm<InputForms> for Method {
     ghost use Rattle.bridge_read.specs.forms.Methods.{method};
 
     ghost form = { method.read };
@@ -142,7 +143,7 @@ impl FromForm for Method {
 }
 
 #[tactic(auto, unfolding(crate::specs::forms::Methods::trait_receiver, bridge_form::specs::Left::are_apart, bridge_form::specs::Keys::key_text))]
-impl FromForm for TraitSelfParam {
+impl FromForm<InputForms> for TraitSelfParam {
     ghost use Rattle.bridge_read.specs.forms.Methods.{trait_receiver};
 
     ghost form = { trait_receiver.read };
@@ -183,8 +184,8 @@ fn trait_signed(alloc: Global, left: &mut Fields) -> Read<TraitSignature>
     })
 }
 
-#[tactic(auto, unfolding(crate::specs::forms::Methods::trait_method, crate::specs::forms::Methods::trait_signature, crate::specs::forms::Docs::documented, bridge_form::specs::Left::are_apart, bridge_form::specs::Keys::key_text))]
-impl FromForm for TraitMethod {
+#[tactic(auto, unfolding(crate::specs::forms::Methods::trait_method, crate::specs::forms::Methods::trait_signature, bridge_read_parts::specs::forms::Docs::documented, bridge_form::specs::Left::are_apart, bridge_form::specs::Keys::key_text))]
+impl FromForm<InputForms> for TraitMethod {
     ghost use Rattle.bridge_read.specs.forms.Methods.{trait_method};
 
     ghost form = { trait_method.read };

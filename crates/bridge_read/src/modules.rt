@@ -6,21 +6,21 @@ ghost use Rattle.serde_json.specs.View.{view};
 ghost use Rattle.bridge_form.specs.declared.keys.Key.{Key as Name};
 ghost use Rattle.bridge_form.specs.Form.{object_with, read_alone};
 ghost use Rattle.bridge_form.specs.Given.{Gives};
-ghost use Rattle.bridge_read.specs.inside.Taking.{Takes, held};
+ghost use Rattle.bridge_read_parts.specs.Taking.{Takes, held};
 ghost use Rattle.bridge_read.specs.forms.Modules.{contents, module_of, module_parts, module_within, nested_in};
 ghost use Rattle.bridge_form.specs.Left.{IsLeft};
 ghost use Rattle.bridge_read.specs.inside.Names.{NamesModule};
 
-use crate::attrs::no_attrs;
-use crate::reading::{FromForm, held, listed, needed, read_object};
+use crate::InputForms;
 use bridge_ast::{Alias, Attrs, Item, Items, Module, NoMemory, Text};
 use bridge_form::{Fields, Key, Read, ReadFault, entries, in_entry, in_member};
+use bridge_read_parts::{FromForm, held, listed, needed, no_attrs, read_object};
 use serde_json::Value;
 use std::alloc::{AllocError, Global};
 use std::marker::Model;
 
 #[tactic(auto, unfolding(crate::specs::forms::Modules::alias, bridge_form::specs::Left::are_apart, bridge_form::specs::Keys::key_text))]
-impl FromForm for Alias {
+impl FromForm<InputForms> for Alias {
     ghost use Rattle.bridge_read.specs.forms.Modules.{alias};
 
     ghost form = { alias.read };
@@ -256,7 +256,7 @@ fn module_within(
 }
 
 #[tactic(auto, unfolding(crate::specs::forms::Modules::root, crate::specs::forms::Modules::contents, bridge_form::specs::Left::are_apart, bridge_form::specs::Keys::key_text))]
-impl FromForm for ModuleList {
+impl FromForm<InputForms> for ModuleList {
     ghost use Rattle.bridge_read.specs.forms.Modules.{root};
 
     ghost form = { root.read };

@@ -8,11 +8,12 @@ ghost use Rattle.bridge_form.specs.Form.{find_word, read_alone};
 ghost use Rattle.bridge_form.specs.Reading.{list_of, text_of};
 ghost use Rattle.bridge_read.specs.forms.Settings.{backend_names, flag_words, name_value, turned_on};
 ghost use Rattle.bridge_form.specs.Left.{IsLeft};
-ghost use Rattle.bridge_read.specs.inside.Taking.{Takes, held};
+ghost use Rattle.bridge_read_parts.specs.Taking.{Takes, held};
 
-use crate::reading::{FromForm, flag, held, listed, needed, optional, read_object};
+use crate::InputForms;
 use bridge_ast::{Items, NoMemory, Text};
 use bridge_form::{Fields, Key, Read, ReadFault, in_member_named, members, text};
+use bridge_read_parts::{FromForm, flag, held, listed, needed, optional, read_object};
 use hir_backends::{BackendAttrSupport, BasicAttributeValidator, Names, Pairs, SupportFlag};
 use hir_config::LoweringConfig;
 use hir_docs::DocsUrlGenerator;
@@ -34,7 +35,7 @@ fn flag_called(name: &str) -> Option<SupportFlag>
 }
 
 #[tactic(auto, unfolding(crate::specs::forms::Settings::support_flag))]
-impl FromForm for SupportFlag {
+impl FromForm<InputForms> for SupportFlag {
     ghost use Rattle.bridge_read.specs.forms.Settings.{support_flag};
 
     ghost form = { support_flag.read };
@@ -57,7 +58,7 @@ fn turned_on(flags: &[SupportFlag]) -> BackendAttrSupport
 }
 
 #[tactic(auto, unfolding(crate::specs::forms::Settings::supported))]
-impl FromForm for BackendAttrSupport {
+impl FromForm<InputForms> for BackendAttrSupport {
     ghost use Rattle.bridge_read.specs.forms.Settings.{supported};
 
     ghost form = { supported.read };
@@ -69,7 +70,7 @@ impl FromForm for BackendAttrSupport {
 }
 
 #[tactic(auto, unfolding(crate::specs::forms::Settings::name_value, bridge_form::specs::Left::are_apart, bridge_form::specs::Keys::key_text))]
-impl FromForm for (Text, Text) {
+impl FromForm<InputForms> for (Text, Text) {
     ghost use Rattle.bridge_read.specs.forms.Settings.{name_value};
 
     ghost form = { name_value.read };
@@ -115,7 +116,7 @@ fn backend_names(alloc: Global, left: &mut Fields) -> Read<BackendNames>
 }
 
 #[tactic(auto, unfolding(crate::specs::forms::Settings::backend, crate::specs::forms::Settings::backend_names, bridge_form::specs::Left::are_apart, bridge_form::specs::Keys::key_text))]
-impl FromForm for BasicAttributeValidator {
+impl FromForm<InputForms> for BasicAttributeValidator {
     ghost use Rattle.bridge_form.specs.Form.{find_word, read_alone};
     ghost use Rattle.bridge_read.specs.forms.Settings.{backend};
 
@@ -138,7 +139,7 @@ impl FromForm for BasicAttributeValidator {
 }
 
 #[tactic(auto, unfolding(crate::specs::forms::Settings::config, bridge_form::specs::Left::are_apart, bridge_form::specs::Keys::key_text))]
-impl FromForm for LoweringConfig {
+impl FromForm<InputForms> for LoweringConfig {
     ghost use Rattle.bridge_read.specs.forms.Settings.{config};
 
     ghost form = { config.read };
@@ -196,7 +197,7 @@ impl Bases {
 }
 
 #[tactic(auto, unfolding(crate::specs::forms::Settings::bases))]
-impl FromForm for Bases {
+impl FromForm<InputForms> for Bases {
     ghost use Rattle.bridge_read.specs.forms.Settings.{bases};
 
     ghost form = { bases.read };
@@ -215,7 +216,7 @@ impl FromForm for Bases {
 }
 
 #[tactic(auto, unfolding(crate::specs::forms::Settings::urls, bridge_form::specs::Left::are_apart, bridge_form::specs::Keys::key_text))]
-impl FromForm for DocsUrlGenerator {
+impl FromForm<InputForms> for DocsUrlGenerator {
     ghost use Rattle.bridge_read.specs.forms.Settings.{urls};
 
     ghost form = { urls.read };

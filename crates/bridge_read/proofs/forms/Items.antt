@@ -13,10 +13,10 @@ use Rattle.bridge_form.proofs.Proved.{Proved, ProvedParts, List_of, Object, Made
 use Rattle.bridge_form.specs.Form.{object_with, one_word}
 use Rattle.bridge_form.proofs.ChoiceLaws.{chosen_lawful}
 use Rattle.bridge_form.proofs.ObjectLaws.{object_lawful}
-use Rattle.bridge_read.proofs.forms.Docs.{P_documented}
-use Rattle.bridge_read.proofs.forms.Lifetimes.{P_node}
+use Rattle.bridge_read_parts.proofs.forms.Docs.{P_documented}
+use Rattle.bridge_read_parts.proofs.forms.Lifetimes.{P_node}
 use Rattle.bridge_read.proofs.forms.Methods.{P_method, P_trait_method, P_signature}
-use Rattle.bridge_read.proofs.forms.Types.{P_type_name}
+use Rattle.bridge_read_parts.proofs.forms.Types.{P_type_name}
 
 pub field_lawful : Lawful field
 unfolding field

@@ -12,11 +12,11 @@ use Rattle.bridge_read.specs.declared.methods.TraitSignature.{TraitSignature}
 use Rattle.bridge_read.specs.forms.Methods.{param_of, param, receiver_of, receiver, signature_of, signature, head_of, method_head, method_of, method, trait_receiver_of, trait_receiver, trait_signature_of, trait_signature, trait_method_of, trait_method}
 use Rattle.bridge_form.proofs.FormLaws.{Lawful, LawfulParts}
 use Rattle.bridge_form.proofs.Proved.{Proved, ProvedParts, List_of, Object, Made, Needs, May_have, May_be, Grouped, ◌&&&◌, Text}
-use Rattle.bridge_read.specs.forms.Attrs.{no_attrs}
-use Rattle.bridge_read.proofs.forms.Attrs.{P_attrs}
-use Rattle.bridge_read.proofs.forms.Docs.{P_documented}
-use Rattle.bridge_read.proofs.forms.Lifetimes.{P_node, P_path, P_reference}
-use Rattle.bridge_read.proofs.forms.Types.{P_type_name}
+use Rattle.bridge_read_parts.specs.forms.Attrs.{no_attrs}
+use Rattle.bridge_read_parts.proofs.forms.Attrs.{P_attrs}
+use Rattle.bridge_read_parts.proofs.forms.Docs.{P_documented}
+use Rattle.bridge_read_parts.proofs.forms.Lifetimes.{P_node, P_path, P_reference}
+use Rattle.bridge_read_parts.proofs.forms.Types.{P_type_name}
 
 pub param_lawful : Lawful param
 unfolding param

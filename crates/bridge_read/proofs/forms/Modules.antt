@@ -7,10 +7,10 @@ use Rattle.bridge_read.specs.declared.modules.Contents.{Contents}
 use Rattle.bridge_read.specs.forms.Modules.{alias_of, alias, contents_of, contents, in_a_row, module_of, named_module, nothing_of, any_text, path_in, module_parts, module_within, nested_in, root}
 use Rattle.bridge_form.proofs.FormLaws.{Lawful, LawfulParts}
 use Rattle.bridge_form.proofs.Proved.{Proved, ProvedParts, List_of, Object, Made, Needs, May_be, May_be_by, Told, Grouped, Never, ◌&&&◌, Text, Mapped}
-use Rattle.bridge_read.specs.forms.Attrs.{no_attrs}
+use Rattle.bridge_read_parts.specs.forms.Attrs.{no_attrs}
 use Rattle.bridge_form.specs.Form.{Form}
 use Rattle.bridge_form.proofs.ObjectLaws.{object_lawful}
-use Rattle.bridge_read.proofs.forms.Attrs.{P_attrs}
+use Rattle.bridge_read_parts.proofs.forms.Attrs.{P_attrs}
 use Rattle.bridge_read.proofs.forms.Items.{P_item_form}
 
 pub alias_lawful : Lawful alias

@@ -16,10 +16,10 @@ use Rattle.bridge_words.specs.declared.words.ItemKind.{ItemKind}
 use Rattle.bridge_words.specs.declared.words.ItemKind.TheVariants as kind
 use Rattle.bridge_form.specs.Form.{Form, Parts, object_with, made, ◌&◌, needs, may_be, may_have, skips, grouped, chosen_by, list, text, flag, integer, one_word}
 use Rattle.bridge_words.specs.Words.{item_kind_words}
-use Rattle.bridge_read.specs.forms.Docs.{documented}
-use Rattle.bridge_read.specs.forms.Lifetimes.{node, mutability}
+use Rattle.bridge_read_parts.specs.forms.Docs.{documented}
+use Rattle.bridge_read_parts.specs.forms.Lifetimes.{node, mutability}
 use Rattle.bridge_read.specs.forms.Methods.{method, trait_method, signature, or_else}
-use Rattle.bridge_read.specs.forms.Types.{type_name}
+use Rattle.bridge_read_parts.specs.forms.Types.{type_name}
 
 abbrev pub field_of : List ℕ → TypeName → Docs × Attrs → Field
 field_of name ty about = record { name = name; ty = ty; docs = about.0; attrs = about.1 }

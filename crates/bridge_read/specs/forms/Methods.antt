@@ -17,10 +17,10 @@ use Rattle.bridge_read.specs.declared.methods.MethodHead.{MethodHead}
 use Rattle.bridge_read.specs.declared.methods.Signature.{Signature}
 use Rattle.bridge_read.specs.declared.methods.TraitSignature.{TraitSignature}
 use Rattle.bridge_form.specs.Form.{Form, Parts, object_with, made, ◌&◌, needs, may_be, may_have, grouped, list, text}
-use Rattle.bridge_read.specs.forms.Attrs.{attrs, no_attrs}
-use Rattle.bridge_read.specs.forms.Docs.{documented}
-use Rattle.bridge_read.specs.forms.Lifetimes.{node, path, reference}
-use Rattle.bridge_read.specs.forms.Types.{type_name}
+use Rattle.bridge_read_parts.specs.forms.Attrs.{attrs, no_attrs}
+use Rattle.bridge_read_parts.specs.forms.Docs.{documented}
+use Rattle.bridge_read_parts.specs.forms.Lifetimes.{node, path, reference}
+use Rattle.bridge_read_parts.specs.forms.Types.{type_name}
 
 -- what is given, or what its absence stands for
 abbrev pub or_else : {A : Type 0} → A → Option A → A

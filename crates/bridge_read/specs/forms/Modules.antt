@@ -10,7 +10,7 @@ use Rattle.bridge_form.specs.declared.keys.Key.TheVariants as key
 use Rattle.bridge_read.specs.declared.modules.Contents.{Contents}
 use Rattle.bridge_form.specs.Reading.{under}
 use Rattle.bridge_form.specs.Form.{Form, Parts, object_with, made, ◌&◌, needs, may_be, may_be_by, told, grouped, mapped, never, list, text}
-use Rattle.bridge_read.specs.forms.Attrs.{attrs, no_attrs}
+use Rattle.bridge_read_parts.specs.forms.Attrs.{attrs, no_attrs}
 use Rattle.bridge_read.specs.forms.Items.{item_form}
 
 abbrev pub alias_of : List ℕ → List (List ℕ) → Alias

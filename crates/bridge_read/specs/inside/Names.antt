@@ -5,7 +5,7 @@ use Rattle.bridge_form.specs.declared.fault.ReadFault.{ReadFault}
 use Rattle.bridge_form.specs.declared.keys.Key.{Key}
 use Rattle.bridge_form.specs.declared.keys.Key.TheVariants as key
 use Rattle.bridge_form.specs.Given.{Stops}
-use Rattle.bridge_read.specs.inside.Taking.{needed}
+use Rattle.bridge_read_parts.specs.Taking.{needed}
 use Rattle.bridge_read.specs.forms.Modules.{any_text, name_of}
 use Rattle.bridge_form.specs.declared.fields.Fields.{Fields}
 use Rattle.bridge_form.specs.Left.{IsLeft}

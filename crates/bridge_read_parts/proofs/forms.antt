@@ -1,0 +1,4 @@
+pub mod Attrs
+pub mod Docs
+pub mod Lifetimes
+pub mod Types
